@@ -1,0 +1,5 @@
+pub mod Texts
+pub mod Rowing
+pub mod Splitting
+pub mod Decoding
+pub mod Reading

@@ -1,0 +1,10 @@
+pub mod Numbers
+pub mod Ranges
+pub mod Nesting
+pub mod Steps
+pub mod Checks
+pub mod Reading
+pub mod Uniqueness
+pub mod Order
+pub mod Computing
+pub mod Nested

@@ -1,0 +1,9 @@
+pub mod Limits
+pub mod FileContents
+pub mod Refusals
+pub mod Blocks
+pub mod Files
+pub mod Draft
+pub mod Unique
+pub mod Orderly
+pub mod Reading
