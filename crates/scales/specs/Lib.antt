@@ -1,0 +1,13 @@
+pub mod Semiring
+pub mod Adjoined
+pub mod Cut
+pub mod Revenue
+pub mod Count
+pub mod Best
+pub mod Places
+pub mod BestThree
+pub mod Tied
+pub mod Lowest
+pub mod Meanings
+pub mod Tells
+pub mod Worked
