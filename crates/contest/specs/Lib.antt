@@ -1,0 +1,10 @@
+pub mod Contest
+pub mod Total
+pub mod Nest
+pub mod Lots
+pub mod Telling
+pub mod Descent
+pub mod Choices
+pub mod Theorems
+pub mod Coded
+pub mod Appraised
