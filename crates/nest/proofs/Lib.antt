@@ -1,0 +1,6 @@
+pub mod Placing
+pub mod Upward
+pub mod Reading
+mod Chaining
+mod Downward
+mod Summing
