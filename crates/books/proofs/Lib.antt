@@ -1,0 +1,12 @@
+pub mod Checked
+pub mod Kept
+pub mod Nests
+pub mod Loaded
+pub mod Reached
+pub mod Loads
+pub mod Replay
+pub mod Bridge
+pub mod Carrying
+pub mod Selling
+pub mod Promised
+pub mod Appraising

@@ -1,0 +1,10 @@
+pub mod Book
+pub mod History
+pub mod Nested
+pub mod Loading
+pub mod Contests
+pub mod Worked
+pub mod Sold
+pub mod Promises
+pub mod Appraisals
+pub mod Examples
