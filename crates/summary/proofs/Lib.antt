@@ -1,0 +1,4 @@
+pub mod Texts
+pub mod Keeping
+pub mod Paying
+pub mod Reporting
