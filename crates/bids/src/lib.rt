@@ -1,4 +1,6 @@
 // Bids, and the limits that the rules set for a sale.
+#![tactic(auto)]
+
 pub mod bid;
 pub mod limits;
 

@@ -1,5 +1,5 @@
 -- A row is decoded as the one line that it is.
-use Rattle.std.proofs.Common.{◌≡◌, ℕ, zero, suc, ◌<◌, true, false, not, ◌&&◌, ◌||◌, eqb, ltb, leb, ◌⊎◌, List, [], ◌∷◌, ◌++◌, length, get_or, sym, refl, ap, ◌∙◌, subst, ⊎_elim, arith}
+use Rattle.std.proofs.Common.{◌≡◌, ℕ, zero, suc, ◌<◌, true, false, not, ◌&&◌, ◌||◌, eqb, ltb, leb, List, [], ◌∷◌, ◌++◌, length, get_or, sym, refl, ap, ◌∙◌, subst, ⊎_elim, arith}
 use Rattle.std.proofs.lemmas.Bool.{cond-false, ne_eqb, eq-eqb, eqb-true, le-leb, leb-true, lt-ltb, ltb-true, and_from, and_parts, or_cases, or_left, or_right, not_from_false, cases_Bool, true≢false}
 use Rattle.lines.specs.Kinds.{max_digits, Kind, header, opening, closing, lot, bid, remark, ending, written, Proper, Spells, Numeral, Digit}
 use Rattle.lines.specs.Rows.{Row, content, Tells, Illegible}

@@ -1,4 +1,6 @@
 // The line reader of 1994 sale files: lines whose parts are borrowed from the file.
+#![tactic(auto)]
+
 pub mod laws;
 pub mod line;
 mod next;

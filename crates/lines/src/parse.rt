@@ -71,10 +71,10 @@ pub(crate) fn parse<'a>(text: &'a [u8], at: usize) -> Result<Line<'a>, Malformed
     requires { at + length text.now < 2 ^ 64 }
     ensures { MatchResult result (λ l. Spells text.now (kind_of l) × Stands at l) (λ e. (k : Kind) → Spells text.now k → ⊥) }
 {
-    if text == b"SALE 94" {
+    if text == b"SALE 94".as_slice() {
         return Ok(Line::Header);
     }
-    if text == b"END" {
+    if text == b"END".as_slice() {
         return Ok(Line::End);
     }
     let [first, rest @ ..] = text else {

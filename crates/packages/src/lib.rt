@@ -1,5 +1,7 @@
 // Packages of lots: what a kind of package answers, and where a package stands in a nest.
 // The search is `place::place`: a module and a function beside it cannot have one name.
+#![tactic(auto)]
+
 mod laws;
 mod mask;
 mod package;

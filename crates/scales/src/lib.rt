@@ -1,4 +1,6 @@
 // Scales: values that are added and multiplied by the laws of a commutative semiring.
+#![tactic(auto)]
+
 mod amount;
 pub mod best_three;
 pub mod count;

@@ -39,10 +39,10 @@ loop-i-preserved g c =
     elim c.match-compare.branch [
       | in-Inside w ↦
           let n = more Inside c.loop-i.innermost w.in-Inside.ensures c.loop-i.invariant.1 c.loop-i.invariant.2 in
-          (omega arith, n.0, n.1 ∙ sym {b = Some (c.loop-i.i + 1)} w.innermost_is)
+          (omega arith, n.0, n.1 ∙ sym {b = Some (c.loop-i.i + 1)} w.innermost-is)
       | in-Apart w ↦
           let n = more Apart c.loop-i.innermost w.in-Apart.ensures c.loop-i.invariant.1 c.loop-i.invariant.2 in
-          (omega arith, n.0, n.1 ∙ sym {b = c.loop-i.innermost} w.innermost_is)
+          (omega arith, n.0, n.1 ∙ sym {b = c.loop-i.innermost} w.innermost-is)
     ]
 
 pub returns : goal.returns

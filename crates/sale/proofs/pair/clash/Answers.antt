@@ -12,7 +12,7 @@ returns g c =
     let bids = c.args.bids.now in
     let one = c.requires.placed c.args.j c.requires.first in
     let other = c.requires.placed c.args.k c.requires.second in
-    c.shares-lot.ensures
+    c.shares_lot.ensures
     ∙ ap shares (c.compare.ensures
     ∙ ap₂ relation_of
     (read_package m packages (get_or bids c.args.j no_bid).package c.index-packages-bids.result (omega (arith, one.0, one.1)) c.index-packages-bids.is)

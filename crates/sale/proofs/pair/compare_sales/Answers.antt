@@ -13,21 +13,21 @@ use Rattle.books.proofs.Reached.{always_sound}
 use Rattle.sale.specs.Compared.{earlier}
 use Rattle.sale.proofs.pair.compare_sales.Goals as goal
 
-pub returns-in-err-paid : goal.returns-in-err-paid
-returns-in-err-paid g c =
+pub returns-in_err-paid : goal.returns-in_err-paid
+returns-in_err-paid g c =
     record {
       answer = λ h k held kept.
-          let p = err_from_is_err_and c.from-residual.result c.from-residual.ensures.1 in
-          rw (p.1, p.2) (ap (λ x. earlier x (charge_check (contest_at k) c.args.buyer)) (c.in-err-paid.ensures h held).0, tt);
+          let p = err_from_is_err_and c.from_residual.result c.from_residual.ensures.1 in
+          rw (p.1, p.2) (ap (λ x. earlier x (charge_check (contest_at k) c.args.buyer)) (c.in_err-paid.ensures h held).0, tt);
       promises = promises g.S.Scale.meaning g.S.Scale.ring;
     }
 
-pub returns-in-err-owed : goal.returns-in-err-owed
-returns-in-err-owed g c =
+pub returns-in_err-owed : goal.returns-in_err-owed
+returns-in_err-owed g c =
     record {
       answer = λ h k held kept.
-          let p = err_from_is_err_and c.from-residual-in-err-owed.result c.from-residual-in-err-owed.ensures.1 in
-          rw (p.1, p.2) (ap₂ earlier (c.in-ok-paid.ensures h held).0 (c.in-err-owed.ensures k kept).0, tt);
+          let p = err_from_is_err_and c.from_residual-in_err-owed.result c.from_residual-in_err-owed.ensures.1 in
+          rw (p.1, p.2) (ap₂ earlier (c.in_ok-paid.ensures h held).0 (c.in_err-owed.ensures k kept).0, tt);
       promises = promises g.S.Scale.meaning g.S.Scale.ring;
     }
 
@@ -35,8 +35,8 @@ pub returns : goal.returns
 returns g c =
     record {
       answer = λ h k held kept.
-          let paid = c.in-ok-paid.ensures h held in
-          let owed = c.in-ok-owed.ensures k kept in
+          let paid = c.in_ok-paid.ensures h held in
+          let owed = c.in_ok-owed.ensures k kept in
           let fits : SFits w128 c.gain.result = search rules in
           let fits_2 : SFits w128 c.gain-2.result = search rules in
           let prices = ap price_in (c.bids-prices.ensures h held) in (

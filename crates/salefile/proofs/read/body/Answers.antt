@@ -8,22 +8,22 @@ use Rattle.salefile.proofs.Checks.{reject_illegible, reject_over}
 use Rattle.salefile.proofs.read.body.Goals as goal
 use Rattle.salefile.proofs.read.body.Goals.{In-Some}
 
-pub returns-in-err-next : goal.returns-in-err-next
-returns-in-err-next c =
+pub returns-in_err-next : goal.returns-in_err-next
+returns-in_err-next c =
     let i = c.loop-next.invariant in
-    let p = err_from_is_err_and c.from-residual.result c.from-residual.ensures.1 in
-    let w = illegible_shown c.args.lines.now.file.now i.lines c.loop-next.lines c.next.new.self i.reached c.next.ensures.same c.next.result _ c.in-err-next.was c.next.ensures.next in
+    let p = err_from_is_err_and c.from_residual.result c.from_residual.ensures.1 in
+    let w = illegible_shown c.args.lines.now.file.now i.lines c.loop-next.lines c.next.new.self i.reached c.next.ensures.same c.next.result _ c.in_err-next.was c.next.ensures.next in
     rw (p.1, p.2) (refuse c.args.lines.now.file.now c.args.space c.loop-next.lines c.loop-next.draft i illegible 3 _ w.0 (reject_illegible _ i.lines i.keeps.begun i.keeps.going _ w.1))
 
-pub returns-in-default : goal.returns-in-default
-returns-in-default c =
+pub returns-in_default : goal.returns-in_default
+returns-in_default c =
     let i = c.loop-next.invariant in
-    let w = over_shown c.args.lines.now.file.now i.lines c.loop-next.lines c.next.new.self i.reached c.next.ensures.same c.next.result (c.in-ok-next.was ∙ ap Ok c.in-default.is) c.next.ensures.next in
-    refuse c.args.lines.now.file.now c.args.space c.loop-next.lines c.loop-next.draft i over 9 _ w.0 (reject_over _ i.lines i.keeps.begun i.keeps.going _ (ap (λ n. n + 1) (c.lines-read.ensures ∙ w.1)))
+    let w = over_shown c.args.lines.now.file.now i.lines c.loop-next.lines c.next.new.self i.reached c.next.ensures.same c.next.result (c.in_ok-next.was ∙ ap Ok c.in_default.is) c.next.ensures.next in
+    refuse c.args.lines.now.file.now c.args.space c.loop-next.lines c.loop-next.draft i over 9 _ w.0 (reject_over _ i.lines i.keeps.begun i.keeps.going _ (ap (λ n. n + 1) (c.lines_read.ensures ∙ w.1)))
 
 -- the line that the reader gave
 shown : (c : In-Some) → Shown c.args.lines.now.file.now c.loop-next.invariant.lines c.in-Some.next c.loop-next.lines c.next.new.self
-shown c = line_shown c.args.lines.now.file.now c.loop-next.invariant.lines c.loop-next.lines c.next.new.self c.loop-next.invariant.reached c.next.ensures.same c.next.result c.in-Some.next (c.in-ok-next.was ∙ ap Ok c.in-Some.is) c.next.ensures.next
+shown c = line_shown c.args.lines.now.file.now c.loop-next.invariant.lines c.loop-next.lines c.next.new.self c.loop-next.invariant.reached c.next.ensures.same c.next.result c.in-Some.next (c.in_ok-next.was ∙ ap Ok c.in-Some.is) c.next.ensures.next
 
 pub returns-in-End : goal.returns-in-End
 returns-in-End c =
@@ -47,7 +47,7 @@ pub loop-next-preserved : goal.loop-next-preserved
 loop-next-preserved c =
     let i = c.loop-next.invariant in
     let w = shown (goal.at.loop-next-preserved c).In-Some in
-    let t = c.in-ok-add.ensures (not_ending c.in-Some.next.line c.in-default-line.not-End) i.lines i.keeps w.numbered in
+    let t = c.in_ok-add.ensures (not_ending c.in-Some.next.line c.in_default-line.not-End) i.lines i.keeps w.numbered in
     record {
       fits = i.fits;
       space_few = i.space_few;
@@ -64,10 +64,10 @@ loop-next-smaller c =
     let high = c.next.new.self.within in
     omega (arith, w.onward)
 
-pub returns-in-err-add : goal.returns-in-err-add
-returns-in-err-add c =
+pub returns-in_err-add : goal.returns-in_err-add
+returns-in_err-add c =
     let i = c.loop-next.invariant in
-    let w = shown (goal.at.returns-in-err-add c).In-Some in
-    let p = err_from_is_err_and c.from-residual-in-err-add.result c.from-residual-in-err-add.ensures.1 in
-    let t = c.in-err-add.ensures (not_ending c.in-Some.next.line c.in-default-line.not-End) i.lines i.keeps w.numbered in
+    let w = shown (goal.at.returns-in_err-add c).In-Some in
+    let p = err_from_is_err_and c.from_residual-in_err-add.result c.from_residual-in_err-add.ensures.1 in
+    let t = c.in_err-add.ensures (not_ending c.in-Some.next.line c.in_default-line.not-End) i.lines i.keeps w.numbered in
     rw (p.1, p.2) (refuse_told c.args.lines.now.file.now c.args.space c.loop-next.lines c.loop-next.draft i (line (kind_of c.in-Some.next.line)) _ w.shows t)

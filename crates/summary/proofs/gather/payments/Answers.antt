@@ -2,19 +2,19 @@ use Rattle.std.proofs.Common.{◌≡◌, ◌-◌, vec_items, ap, ◌∙◌, arit
 use Rattle.books.specs.Contests.{contest_at}
 use Rattle.summary.proofs.Paying.{paid_to, pays_more, pays_same}
 use Rattle.summary.proofs.gather.payments.Goals as goal
-use Rattle.summary.proofs.gather.payments.Goals.{then-has-marked-bid+in-ok-push, else-has-marked-bid}
+use Rattle.summary.proofs.gather.payments.Goals.{then-has-marked-bid+in-ok-push, else-has_marked_bid}
 
 pub loop-buyer-preserved : goal.loop-buyer-preserved
 loop-buyer-preserved g c h held m =
     let b = c.loop-buyer.buyer in
-    elim c.if-has-marked-bid.branch [
+    elim c.if-has_marked_bid.branch [
       | then-has-marked-bid+in-ok-push w ↦
-          pays_more (contest_at h) _ _ m b (omega arith) (omega arith) _ c.has-marked-bid.ensures _ _ w.charge.result _
-          w.if-has-marked-bid.true (w.charge.ensures h held) w.unwrap-or-amount.ensures (c.loop-buyer.invariant h held m)
-          (ap vec_items w.payments-is ∙ w.in-ok-push.ensures.items)
-      | else-has-marked-bid w ↦
+          pays_more (contest_at h) _ _ m b (omega arith) (omega arith) _ c.has_marked_bid.ensures _ _ w.charge.result _
+          w.if-has_marked_bid.true (w.charge.ensures h held) w.unwrap_or-amount.ensures (c.loop-buyer.invariant h held m)
+          (ap vec_items w.payments-is ∙ w.in_ok-push.ensures.items)
+      | else-has_marked_bid w ↦
           ap vec_items w.payments-is
-          ∙ pays_same (contest_at h) _ _ m b (omega arith) (omega arith) _ c.has-marked-bid.ensures _ w.if-has-marked-bid.false (c.loop-buyer.invariant h held m)
+          ∙ pays_same (contest_at h) _ _ m b (omega arith) (omega arith) _ c.has_marked_bid.ensures _ w.if-has_marked_bid.false (c.loop-buyer.invariant h held m)
     ]
 
 pub returns : goal.returns

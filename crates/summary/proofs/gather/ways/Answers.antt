@@ -7,5 +7,5 @@ use Rattle.summary.proofs.gather.ways.Goals as goal
 pub returns-in-None : goal.returns-in-None
 returns-in-None g c h held =
     ways_are (contest_at h) _ None
-    (appraised _ _ _ _ _ _ _ _ _ c.appraise.result _ _ (always_sound h).packages_few (c.appraise.ensures h held) c.unwrap-or-total.ensures)
+    (appraised _ _ _ _ _ _ _ _ _ c.appraise.result _ _ (always_sound h).packages_few (c.appraise.ensures h held) c.unwrap_or-total.ensures)
     c.in-None.ensures

@@ -26,16 +26,16 @@ refused_with b answered t (Some p) Obeyed is obeyed said = subst (λ (a : Answer
 pub returns-in-Ok-load : goal.returns-in-Ok-load
 returns-in-Ok-load c =
     let file = c.args.file.now in
-    let held = held_new _ _ c.in-ok-table.ensures.len c.in-Ok.ensures.0 in
+    let held = held_new _ _ c.in_ok-table.ensures.len c.in-Ok.ensures.0 in
     let loaded = c.in-Ok-load.ensures.rules new_sale held in
-    IfOk-weaker c.accepted-report.result _ _
+    IfOk-weaker c.accepted_report.result _ _
     (λ t said. subst (λ (a : Answer). Reported (file_book file) a t) loaded.answers (said (then new_sale (load file)) loaded.holds _))
-    c.accepted-report.ensures
+    c.accepted_report.ensures
 
 pub returns : goal.returns
 returns c =
     let file = c.args.file.now in
-    let held = held_new _ _ c.in-ok-table.ensures.len c.in-Ok.ensures.0 in
-    IfOk-weaker c.refused-report.result _ _
+    let held = held_new _ _ c.in_ok-table.ensures.len c.in-Ok.ensures.0 in
+    IfOk-weaker c.refused_report.result _ _
     (λ t said. refused_with (file_book file) (file_answer file) t _ _ (λ a obeys. (obeys new_sale held).answers) c.in-Err.ensures.rules said)
-    c.refused-report.ensures
+    c.refused_report.ensures

@@ -4,16 +4,16 @@ use Rattle.lines.specs.Rows.{content}
 use Rattle.lines.proofs.Rowing.{Rest, next_over, next_unended, next_bad, next_line}
 use Rattle.lines.proofs.reader.LineReader.next.Goals as goal
 
-pub returns-then-is-empty : goal.returns-then-is-empty
-returns-then-is-empty c =
+pub returns-then-is_empty : goal.returns-then-is_empty
+returns-then-is_empty c =
     let s = c.args.self.now in
-    record { same = refl; next = next_over s.file.now s.number s.at (eqb-true _ 0 (sym c.if-is-empty.ensures)) }
+    record { same = refl; next = next_over s.file.now s.number s.at (eqb-true _ 0 (sym c.if-is_empty.ensures)) }
 
 pub returns-then-length-rest : goal.returns-then-length-rest
 returns-then-length-rest c =
     let s = c.args.self.now in
     let rest : List ℕ = Rest s.file.now s.at in
-    let none : length rest ≡ 0 → ⊥ = eqb-false _ 0 (sym c.if-is-empty.ensures) in
+    let none : length rest ≡ 0 → ⊥ = eqb-false _ 0 (sym c.if-is_empty.ensures) in
     let all : c.position-length.result ≡ length rest = c.if-length-rest.true in
     let some : 0 < length rest = omega arith in
     record { same = refl; next = next_unended s.file.now s.number s.at some (λ k lt. c.position-length.ensures.before k (subst (λ m. k < m) (sym all) lt)) }

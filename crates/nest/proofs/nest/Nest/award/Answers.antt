@@ -11,13 +11,13 @@ returns c =
     let n = c.args.self.now in
     let it = contest_of_nest n in
     let before = c.args.out.now in
-    let after = c.mark-award.new.out in
-    let ebs = c.as-slice.ensures.value in
-    let marks = c.mark-award.ensures in (
+    let after = c.mark_award.new.out in
+    let ebs = c.as_slice.ensures.value in
+    let marks = c.mark_award.ensures in (
       cond-true _ _ _ (le-leb (length (vec_items n.bids)) (length before) (omega (arith, n.bids.ok.0))),
       record {
         bytes = marks;
-        revenue = c.sum-up.ensures.revenue ∙ ap (λ bs. sum_over (length bs) (marked after) (price_in bs)) ebs ∙ sum_marked it.count (award it) before after it.price marks;
-        winning = c.sum-up.ensures.winning ∙ ap (λ bs. sum_over (length bs) (marked after) (λ k. 1)) ebs ∙ sum_marked it.count (award it) before after (λ k. 1) marks;
+        revenue = c.sum_up.ensures.revenue ∙ ap (λ bs. sum_over (length bs) (marked after) (price_in bs)) ebs ∙ sum_marked it.count (award it) before after it.price marks;
+        winning = c.sum_up.ensures.winning ∙ ap (λ bs. sum_over (length bs) (marked after) (λ k. 1)) ebs ∙ sum_marked it.count (award it) before after (λ k. 1) marks;
       },
     )

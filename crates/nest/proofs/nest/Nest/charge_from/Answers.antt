@@ -8,20 +8,20 @@ use Rattle.nest.proofs.Downward.{below_top}
 use Rattle.nest.proofs.Summing.{others_is, without_is, charge_from}
 use Rattle.nest.proofs.nest.Nest.charge_from.Goals as goal
 
-both : (c : goal.After-unwrap-or) → (c.others-sum-others.result ≤ c.unwrap-or.result) × (c.unwrap-or.result - c.others-sum-others.result ≡ charge (contest_of_nest c.args.self.now) c.args.buyer)
+both : (c : goal.After-unwrap_or) → (c.others_sum-others.result ≤ c.unwrap_or.result) × (c.unwrap_or.result - c.others_sum-others.result ≡ charge (contest_of_nest c.args.self.now) c.args.buyer)
 both c =
     let n = c.args.self.now in
     let it = contest_of_nest n in
     let ps = vec_items n.parents in
     let bs = vec_items n.bids in
     let b = c.args.buyer in
-    let ebs = c.as-slice-bids.ensures.value in
-    let marks = c.mark-award.new.out in
-    charge_from ps bs b c.others-sum-others.result c.unwrap-or.result
-    (c.others-sum-others.ensures ∙ ap (λ x. sum_over (length x) (marked_others marks x b) (price_in x)) ebs ∙ others_is ps bs b _ marks c.mark-award.ensures)
-    (c.unwrap-or.ensures
+    let ebs = c.as_slice-bids.ensures.value in
+    let marks = c.mark_award.new.out in
+    charge_from ps bs b c.others_sum-others.result c.unwrap_or.result
+    (c.others_sum-others.ensures ∙ ap (λ x. sum_over (length x) (marked_others marks x b) (price_in x)) ebs ∙ others_is ps bs b _ marks c.mark_award.ensures)
+    (c.unwrap_or.ensures
     ∙ ap (λ o. unwrap_or o 0)
-    (c.amount.ensures ∙ ap crowns c.total-from-best.ensures.total
+    (c.amount.ensures ∙ ap crowns c.total_from-best.ensures.total
     ∙ without_is ps bs b (below_top ps bs (lower_of n ps bs refl refl) (placed_of n ps bs refl refl) (bids_few n ps bs refl refl) (without it b) refl (λ k. refl))))
 
 pub overflow-sub-result : goal.overflow-sub-result

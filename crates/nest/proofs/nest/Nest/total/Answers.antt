@@ -10,5 +10,5 @@ returns g c =
     let xs = c.args.worths.now in
     let many : length xs ≡ vec_len n.bids = omega arith in (
       cond-true _ _ _ (eq-eqb _ _ many) ∙ cond-true _ _ _ (le-leb (vec_len n.parents) (length c.args.work.now) (omega arith)),
-      total_weighed n g.met.S.Scale.laws s.meaning _ _ _ _ _ (λ k low high. worth_list s.ring s.meaning xs s.zero k low (omega (arith, many, high, n.bids.ok.0))) c.total-from.ensures,
+      total_weighed n g.met.S.Scale.laws s.meaning _ _ _ _ _ (λ k low high. worth_list s.ring s.meaning xs s.zero k low (omega (arith, many, high, n.bids.ok.0))) c.total_from.ensures,
     )

@@ -9,7 +9,7 @@ pub returns : goal.returns
 returns c =
     let n = c.args.self.now in
     let prices = c.args.prices.now in
-    let marks = c.mark-award.new.out in
-    c.own-sum.ensures
-    ∙ ap (λ x. sum_over (length x) (marked_own marks x c.args.buyer) (price_in prices)) c.as-slice.ensures.value
-    ∙ own_is (vec_items n.parents) (vec_items n.bids) c.args.buyer prices _ marks c.mark-award.ensures
+    let marks = c.mark_award.new.out in
+    c.own_sum.ensures
+    ∙ ap (λ x. sum_over (length x) (marked_own marks x c.args.buyer) (price_in prices)) c.as_slice.ensures.value
+    ∙ own_is (vec_items n.parents) (vec_items n.bids) c.args.buyer prices _ marks c.mark_award.ensures

@@ -34,7 +34,7 @@ permitted_next : (c : After-permit)
     × (reply permit_refusal c.permit.result ≡ accepted (c.loop-run.run_index + 1))
 permitted_next c =
     let i : ℕ = c.loop-run.run_index in
-    let value = c.as-slice-run-items.ensures.value in
+    let value = c.as_slice-run-items.ensures.value in
     let lt : i < length (vec_items c.args.contents.now.packages) = subst (λ l. i < length l) value c.loop-run-test.true in
     let obeys = subst (λ l. Obeys run_set c.loop-run.self c.permit.new.self (permit (run_set (get_or l i no_run))) (reply permit_refusal c.permit.result)) value c.permit.ensures.rules in
     permit_next (min max_packages (vec_len c.args.self.now.table)) (contents_of c.args.contents.now) c.requires.1.1.0 c.requires.1.1.1 (omega arith) c.loop-run.self c.permit.new.self i (reply permit_refusal c.permit.result) lt c.loop-run.invariant.0 obeys
@@ -50,7 +50,7 @@ loop-run-preserved c =
     let R : List Run = vec_items c.args.contents.now.packages in
     let T : List Run = vec_items c.args.self.now.table in
     let ord : Orderly space says = c.requires.1.1.0 in
-    let value = c.as-slice-run-items.ensures.value in
+    let value = c.as_slice-run-items.ensures.value in
     let lt : i < length R = subst (λ l. i < length l) value c.loop-run-test.true in
     let next = permitted_next (goal.at.loop-run-preserved c).After-permit in
     let count : length (map run_set (take i R)) ≡ i = length-map (take i R) run_set ∙ length-take-le i R (omega arith) in
@@ -65,7 +65,7 @@ pub loop-bid-init : goal.loop-bid-init
 loop-bid-init c =
     let says : FileContents = contents_of c.args.contents.now in
     let R : List Run = vec_items c.args.contents.now.packages in
-    let size = ap length c.as-slice-run-items.ensures.value in
+    let size = ap length c.as_slice-run-items.ensures.value in
     let end : c.loop-run.run_index ≡ length R = omega (arith, c.loop-run-test.false, c.loop-run.auto.run-index-end) in
     let held = c.loop-run.invariant.0 in (
       subst (λ n. Holds run_set c.loop-run.self (part says (min max_packages (vec_len c.loop-run.self.table)) n 0)) end
@@ -81,7 +81,7 @@ lodged-next c =
     let says : FileContents = contents_of c.args.contents.now in
     let j : ℕ = c.loop-bid.bid-index in
     let n : ℕ = length (vec_items c.args.contents.now.packages) in
-    let value = c.as-slice-bid-items.ensures.value in
+    let value = c.as_slice-bid-items.ensures.value in
     let lt : j < length says.bids = subst (λ l. j < length l) value c.loop-bid-test.true in
     let held = subst (λ m. Holds run_set c.loop-bid.self (part says m n j)) c.loop-run.invariant.0.space c.loop-bid.invariant.0 in
     let obeys = subst (λ l. Obeys run_set c.loop-bid.self c.lodge.new.self (lodge (get_or l j no_bid).buyer (get_or l j no_bid).price (get_or l j no_bid).«package») (reply lodge_refusal c.lodge.result)) value c.lodge.ensures.rules in
@@ -106,8 +106,8 @@ returns c =
     let T : List Run = vec_items c.args.self.now.table in
     let ord : Orderly space says = c.requires.1.1.0 in
     let same = c.loop-run.invariant.0.space in
-    let size = ap length c.as-slice-bid-items.ensures.value in
-    let size_runs = ap length c.as-slice-run-items.ensures.value in
+    let size = ap length c.as_slice-bid-items.ensures.value in
+    let size_runs = ap length c.as_slice-run-items.ensures.value in
     let end : c.loop-bid.bid-index ≡ length says.bids = omega (arith, c.loop-bid-test.false, c.loop-bid.auto.bid-index-end) in
     let end_runs : c.loop-run.run_index ≡ length R = omega (arith, c.loop-run-test.false, c.loop-run.auto.run-index-end) in
     let held = subst (λ j. Holds run_set c.loop-bid.self (part says space (length R) j)) end (subst (λ m. Holds run_set c.loop-bid.self (part says m (length R) c.loop-bid.bid-index)) same c.loop-bid.invariant.0) in

@@ -15,7 +15,7 @@ returns g c h held =
     let bids = vec_items s.nest.bids in
     let packages = map g.P.Package.meaning (permitted s) in
     let a =
-    carry_awarded (book_of h) (always_sound h) s.nest held.parents held.bids c.args.out.now c.award.new.out (Ok (c.in-ok-revenue.revenue, c.in-ok-revenue.winners)) c.in-ok-revenue.ensures in
+    carry_awarded (book_of h) (always_sound h) s.nest held.parents held.bids c.args.out.now c.award.new.out (Ok (c.in_ok-revenue.revenue, c.in_ok-revenue.winners)) c.in_ok-revenue.ensures in
     let sizes : c.sizes.result ≡ sum_over (length bids) (marked c.award.new.out) (size_in packages bids) =
     c.sizes.ensures ∙ ap (λ n. sum_over n (marked c.award.new.out) (size_in packages bids)) s.nest.bids.ok.0 in (
       a.0,

@@ -16,8 +16,8 @@ returns-then-package-lt1 g c = record {
   rules = λ h held.
       let m = g.P.Package.meaning in
       let count = packages_counted m c.args.self.now (book_of h) held in
-      let buyer_right = passes is_buyer c.from.result c.args.buyer c.from.ensures c.if-not-is-buyer.ensures in
-      let price_right = passes is_price c.from-2.result c.args.price c.from-2.ensures c.if-not-is-price.ensures in
+      let buyer_right = passes is_buyer c.from.result c.args.buyer c.from.ensures c.if-not-is_buyer.ensures in
+      let price_right = passes is_price c.from-2.result c.args.price c.from-2.ensures c.if-not-is_price.ensures in
       let beyond : (c.args.package < 1) ⊎ (length (book_of h).packages < c.args.package) =
       elim c.then-package-lt1.branch [
         | then-package-lt1-via-then-package-lt1 w ↦ inl (omega arith)
@@ -35,8 +35,8 @@ returns-then-len-ge-MAX-BIDS g c = record {
       let m = g.P.Package.meaning in
       let count = packages_counted m c.args.self.now (book_of h) held in
       let bids = bids_counted m c.args.self.now (book_of h) held in
-      let buyer_right = passes is_buyer c.from.result c.args.buyer c.from.ensures c.if-not-is-buyer.ensures in
-      let price_right = passes is_price c.from-2.result c.args.price c.from-2.ensures c.if-not-is-price.ensures in
+      let buyer_right = passes is_buyer c.from.result c.args.buyer c.from.ensures c.if-not-is_buyer.ensures in
+      let price_right = passes is_price c.from-2.result c.args.price c.from-2.ensures c.if-not-is_price.ensures in
       refused_conforms m c.args.self.now h (lodge c.args.buyer c.args.price c.args.package) (29, 0) held
       (bids_full (book_of h) c.args.buyer c.args.price c.args.package buyer_right price_right (omega arith) (omega arith) (omega arith));
   table = refl;
@@ -46,9 +46,9 @@ returns-then-len-ge-MAX-BIDS g c = record {
 pub invariant-of-self : goal.invariant-of-self
 invariant-of-self g c =
     let s = c.args.self.now in
-    let cheap = (between 1 highest_price c.args.price (passes is_price c.from-2.result c.args.price c.from-2.ensures c.if-not-is-price.ensures)).1 in
+    let cheap = (between 1 highest_price c.args.price (passes is_price c.from-2.result c.args.price c.from-2.ensures c.if-not-is_price.ensures)).1 in
     let new = c.new.ensures in
-    let items = c.push-reserved.ensures.items ∙ ap (λ b. vec_items s.nest.bids ++ (b ∷ [])) new in
+    let items = c.push_reserved.ensures.items ∙ ap (λ b. vec_items s.nest.bids ++ (b ∷ [])) new in
     let placed = placed_push (vec_len s.nest.parents) (vec_items s.nest.bids) _ (new_bid c.args.buyer c.args.price c.args.package) items s.nest.bids_placed (omega arith) (omega arith) cheap in
     ((omega arith, (omega arith, (omega arith, (omega arith, (s.nest.parents_lower, (placed, tt)))))), (s.packages_within, tt))
 
@@ -58,8 +58,8 @@ returns g c = record {
       let m = g.P.Package.meaning in
       let count = packages_counted m c.args.self.now (book_of h) held in
       let bids = bids_counted m c.args.self.now (book_of h) held in
-      let buyer_right = passes is_buyer c.from.result c.args.buyer c.from.ensures c.if-not-is-buyer.ensures in
-      let price_right = passes is_price c.from-2.result c.args.price c.from-2.ensures c.if-not-is-price.ensures in
+      let buyer_right = passes is_buyer c.from.result c.args.buyer c.from.ensures c.if-not-is_buyer.ensures in
+      let price_right = passes is_price c.from-2.result c.args.price c.from-2.ensures c.if-not-is_price.ensures in
       let made = lodged (book_of h) c.args.buyer c.args.price c.args.package buyer_right price_right (omega arith) (omega arith) (omega arith) in
       let number : length (book_of h).bids + 1 ≡ c.len-3.result = omega arith in
       accepted_conforms m _ h (lodge c.args.buyer c.args.price c.args.package) c.len-3.result (made ∙ ap accepted number)
@@ -68,7 +68,7 @@ returns g c = record {
         space = held.space;
         packages = held.packages;
         parents = held.parents;
-        bids = c.push-reserved.ensures.items ∙ ap₂ (λ bs b. bs ++ (b ∷ [])) held.bids c.new.ensures;
+        bids = c.push_reserved.ensures.items ∙ ap₂ (λ bs b. bs ++ (b ∷ [])) held.bids c.new.ensures;
       });
   table = refl;
   refused = λ e. absurd (true≢false e);

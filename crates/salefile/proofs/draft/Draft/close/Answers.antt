@@ -3,8 +3,8 @@ use Rattle.salefile.proofs.Steps.{top, top_within, nothing_open, lots_inside, cl
 use Rattle.salefile.proofs.Checks.{clear_close, reject_close_none, reject_no_lots, reject_same_lots}
 use Rattle.salefile.proofs.draft.Draft.close.Goals as goal
 
-pub returns-in-default : goal.returns-in-default
-returns-in-default c space ks h e = reject_close_none space ks h.begun h.going _ e (nothing_open ks _ _ _ _ h (omega (arith, c.in-default.ensures.cases.0)))
+pub returns-in_default : goal.returns-in_default
+returns-in_default c space ks h e = reject_close_none space ks h.begun h.going _ e (nothing_open ks _ _ _ _ h (omega (arith, c.in_default.ensures.cases.0)))
 
 pub returns-then-run : goal.returns-then-run
 returns-then-run c space ks h e =
@@ -18,21 +18,21 @@ pub overflow-add-top : goal.overflow-add-top
 overflow-add-top c = let w = within c in search rules
 
 pub offset-bounds-packages-top : goal.offset-bounds-packages-top
-offset-bounds-packages-top c = let w = within c in let l = ap length c.as-slice-packages.ensures.value in search rules
+offset-bounds-packages-top c = let w = within c in let l = ap length c.as_slice-packages.ensures.value in search rules
 
-pub slice-bounds-any-is-count : goal.slice-bounds-any-is-count
-slice-bounds-any-is-count c = let w = within c in let l = ap length c.as-slice-packages.ensures.value in omega arith
+pub slice-bounds-any_is-count : goal.slice-bounds-any_is-count
+slice-bounds-any_is-count c = let w = within c in let l = ap length c.as_slice-packages.ensures.value in omega arith
 
-pub slice-bounds-any-is-start : goal.slice-bounds-any-is-start
-slice-bounds-any-is-start c = let w = within c in let l = ap length c.as-slice-packages.ensures.value in search rules
+pub slice-bounds-any_is-start : goal.slice-bounds-any_is-start
+slice-bounds-any_is-start c = let w = within c in let l = ap length c.as_slice-packages.ensures.value in search rules
 
-pub returns-then-any-is : goal.returns-then-any-is
-returns-then-any-is c space ks h e =
+pub returns-then-any_is : goal.returns-then-any_is
+returns-then-any_is c space ks h e =
     let t = top ks _ _ _ _ h _ _ c.in-Some.ensures.items in
-    let f = c.if-any-is.ensures in
+    let f = c.if-any_is.ensures in
     let l = lots_inside ks _ _ _ _ h t.0 t.1 t.2 in
     reject_same_lots space ks h.begun h.going _ t.0 t.1 e t.2 (omega (arith, t.3.2))
-    (again ks _ _ _ _ h t.0 t.1 t.2 _ c.as-slice-packages.ensures.value _ t.3.0 _ t.3.2 refl f.0 f.1 f.2)
+    (again ks _ _ _ _ h t.0 t.1 t.2 _ c.as_slice-packages.ensures.value _ t.3.0 _ t.3.2 refl f.0 f.1 f.2)
 
 pub index-mut-requires : goal.index-mut-requires
 index-mut-requires c = let w = top_within c.requires.0 _ _ _ _ c.requires.1 _ _ c.in-Some.ensures.items in omega arith
@@ -40,8 +40,8 @@ index-mut-requires c = let w = top_within c.requires.0 _ _ _ _ c.requires.1 _ _ 
 pub returns : goal.returns
 returns c space ks h e =
     let t = top ks _ _ _ _ h _ _ c.in-Some.ensures.items in
-    let f = c.if-any-is.ensures in
+    let f = c.if-any_is.ensures in
     let l = lots_inside ks _ _ _ _ h t.0 t.1 t.2 in (
-      clear_close space ks h.begun h.going t.0 t.1 t.2 (omega (arith, t.3.2)) (afresh ks _ _ _ _ h t.0 t.1 t.2 _ c.as-slice-packages.ensures.value _ t.3.0 _ t.3.2 refl f),
+      clear_close space ks h.begun h.going t.0 t.1 t.2 (omega (arith, t.3.2)) (afresh ks _ _ _ _ h t.0 t.1 t.2 _ c.as_slice-packages.ensures.value _ t.3.0 _ t.3.2 refl f),
       close_top ks _ _ _ _ h _ _ c.in-Some.ensures.items,
     )

@@ -13,6 +13,6 @@ returns-in-Some c ks h space =
 
 pub returns : goal.returns
 returns c ks h = (
-  nothing_open ks _ _ _ _ h (let l = ap length c.deref.ensures.value in let z = c.in-default.ensures.item.3 in omega arith),
+  nothing_open ks _ _ _ _ h (let l = ap length c.deref.ensures.value in let z = c.in_default.ensures.item.3 in omega arith),
   record { lot_count = ended_lots ks _ _ _ _ h; packaged = ended_packaged ks _ _ _ _ h; lodged = ended_lodged ks _ _ _ _ h },
 )

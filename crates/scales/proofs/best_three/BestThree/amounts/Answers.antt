@@ -7,8 +7,8 @@ use Rattle.scales.proofs.best_three.BestThree.amounts.Goals as goal
 
 pub returns : goal.returns
 returns c =
-    let o = c.with-all-ordered.result in
-    let h = c.with-all-ordered.ensures.order (tt, tt) in
+    let o = c.with_all-ordered.result in
+    let h = c.with_all-ordered.ensures.order (tt, tt) in
     ap₂ in_front c.cut.ensures (ap₂ in_front c.cut-2.ensures (ap (λ t. in_front t []) c.cut-3.ensures))
     ∙ cuts_read top_amount o.first o.second o.third h.0 h.1
-    ∙ ap (λ (b : BestThrees). b.amounts) c.with-all-ordered.ensures.means
+    ∙ ap (λ (b : BestThrees). b.amounts) c.with_all-ordered.ensures.means

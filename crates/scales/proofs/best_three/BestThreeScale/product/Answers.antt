@@ -10,5 +10,5 @@ returns c =
     same_best
     (same_trans
     (product_same a.first a.second a.third (held b) (best_is_same _ _ c.raised.ensures) (best_is_same _ _ c.raised-2.ensures)
-    (best_is_same _ _ c.raised-3.ensures) (best_is_same _ _ c.with-all.ensures.means) (best_is_same _ _ c.with-all-2.ensures.means))
+    (best_is_same _ _ c.raised-3.ensures) (best_is_same _ _ c.with_all.ensures.means) (best_is_same _ _ c.with_all-2.ensures.means))
     (same_trans (pairs_first (held b) (same_sym (best_same (held a)))) (pairs_second _ (same_sym (best_same (held b))))))

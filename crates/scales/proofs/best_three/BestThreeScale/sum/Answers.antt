@@ -5,5 +5,5 @@ use Rattle.scales.proofs.best_three.BestThreeScale.sum.Goals as goal
 
 pub returns : goal.returns
 returns c =
-    c.with-all.ensures.means
+    c.with_all.ensures.means
     ∙ same_best (append_same (same_sym (best_same (held c.args.self))) (same_sym (best_same (held c.args.other))))
