@@ -37,6 +37,14 @@ def is_answer(path):
 APART = {"One-award": "AlwaysOneAward", "Truth-pays": "TruthAlwaysPays"}
 
 
+# Names that were in camel case though they are no types.
+CAMEL = {
+    "getD_mapped": "get_or_mapped", "getD_from": "get_or_from", "inQ": "in_q", "headerLine": "header_line", "lotLine": "lot_line", "bidLine": "bid_line",
+    "lotCount": "counted", "makingOf": "making_of", "permitCall": "permit_call", "lodgeCall": "lodge_call", "withdrawCall": "withdraw_call", "loadCall": "load_call",
+    "acceptedWith": "accepted_with", "refusedBy": "refused_by", "refusalOf": "refusal_of",
+}
+
+
 def respelled(name):
     if name in APART:
         return APART[name]
@@ -102,6 +110,7 @@ def turn_code(text, names):
         w = m.group(0)
         return respelled(w) if w in names else w
 
+    text = re.sub(r"(?<![\w'₀-₉-])(?:%s)(?![\w'₀-₉-])" % "|".join(CAMEL), lambda m: CAMEL[m.group(0)], text)
     return re.sub(r"(?<![\w'₀-₉-])[^\W\d][\w'₀-₉]*(?:-[\w'₀-₉]+)+", one, text)
 
 

@@ -16,10 +16,10 @@ get_d_any [] i d e low = absurd (omega arith)
 get_d_any (x ∷ xs) zero d e low = refl
 get_d_any (x ∷ xs) (suc i) d e low = get_d_any xs i d e (omega arith)
 
-pub getD_mapped : {A B : Type 0} (f : A → B) (xs : List A) (i : ℕ) (d : B) (e : A) → i < length xs → get_or (map f xs) i d ≡ f (get_or xs i e)
-getD_mapped f [] i d e low = absurd (omega arith)
-getD_mapped f (x ∷ xs) zero d e low = refl
-getD_mapped f (x ∷ xs) (suc i) d e low = getD_mapped f xs i d e (omega arith)
+pub get_or_mapped : {A B : Type 0} (f : A → B) (xs : List A) (i : ℕ) (d : B) (e : A) → i < length xs → get_or (map f xs) i d ≡ f (get_or xs i e)
+get_or_mapped f [] i d e low = absurd (omega arith)
+get_or_mapped f (x ∷ xs) zero d e low = refl
+get_or_mapped f (x ∷ xs) (suc i) d e low = get_or_mapped f xs i d e (omega arith)
 
 -- the worths of those of the numbers 1 to i that pass
 abbrev pub sum_front : {M : Type 0} → Semiring M → (ℕ → M) → (ℕ → Bool) → ℕ → M

@@ -81,16 +81,16 @@ length_from : (first n : ℕ) → length (from first n) ≡ n
 length_from first zero = refl
 length_from first (suc n) = ap suc (length_from (suc first) n)
 
-getD_from : {M : Type 0} (f : ℕ → M) (d : M) (first n i : ℕ) → i < n → get_or (map f (from first n)) i d ≡ f (first + i)
-getD_from f d first zero i low = absurd (omega arith)
-getD_from f d first (suc n) zero low = let e : first ≡ first + 0 = omega arith in ap f e
-getD_from f d first (suc n) (suc i) low =
+get_or_from : {M : Type 0} (f : ℕ → M) (d : M) (first n i : ℕ) → i < n → get_or (map f (from first n)) i d ≡ f (first + i)
+get_or_from f d first zero i low = absurd (omega arith)
+get_or_from f d first (suc n) zero low = let e : first ≡ first + 0 = omega arith in ap f e
+get_or_from f d first (suc n) (suc i) low =
     let e : suc first + i ≡ first + suc i = omega arith in
-    getD_from f d (suc first) n i (omega arith) ∙ ap f e
+    get_or_from f d (suc first) n i (omega arith) ∙ ap f e
 
 worth_from : (f : ℕ → Counts) (n k : ℕ) → 1 ≤ k → k ≤ n → worth counts (map f (from 1 n)) k ≡ f k
 worth_from f n zero low high = absurd (omega arith)
-worth_from f n (suc k) low high = let e : 1 + k ≡ suc k = omega arith in getD_from f _ 1 n k (omega arith) ∙ ap f e
+worth_from f n (suc k) low high = let e : 1 + k ≡ suc k = omega arith in get_or_from f _ 1 n k (omega arith) ∙ ap f e
 
 pick_first : (a b : ℕ) → pick a b a ≡ counts.unit
 pick_first a b = ap (λ v. cond v counts.unit counts.nought) (or_left _ _ (eq-eqb a a refl))

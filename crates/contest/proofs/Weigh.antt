@@ -149,13 +149,13 @@ module _ {M : Type 0} {r : Semiring M} (laws : Laws r) (clash : ℕ → ℕ → 
       let P : ℕ → Bool = without clash first p in
       let Q : ℕ → Bool = without clash first q in
       let in_p : (x : ℕ) → P x ≡ true → p x ≡ true = λ x e. (and_parts _ _ e).0 in
-      let inQ : (x : ℕ) → Q x ≡ true → q x ≡ true = λ x e. (and_parts _ _ e).0 in
+      let in_q : (x : ℕ) → Q x ≡ true → q x ≡ true = λ x e. (and_parts _ _ e).0 in
       first_apart (p first) (q first) (w first) _ _ _ _ _ _ (dis first)
       (weigh_apart p q (suc first) n dis pq qp)
       (λ e. weigh_test (without clash first (either p q)) (either P q) (suc first) n (λ x h. drop_left (p x) (q x) (clash first x) (λ f. pq first x h e f))
       ∙ weigh_apart P q (suc first) n (λ x f g. dis x (in_p x f) g) (λ a b h f g. pq a b h (in_p a f) g) (λ a b h f g. qp a b h f (in_p b g)))
       (λ e. weigh_test (without clash first (either p q)) (either p Q) (suc first) n (λ x h. drop_right (p x) (q x) (clash first x) (λ f. qp first x h e f))
-      ∙ weigh_apart p Q (suc first) n (λ x f g. dis x f (inQ x g)) (λ a b h f g. pq a b h f (inQ b g)) (λ a b h f g. qp a b h (inQ a f) g))
+      ∙ weigh_apart p Q (suc first) n (λ x f g. dis x f (in_q x g)) (λ a b h f g. pq a b h f (in_q b g)) (λ a b h f g. qp a b h (in_q a f) g))
 
   -- the first bid, in a class that clashes with all, in another, or in neither
   first_over : (u v : Bool) (b : ℕ) (both both' i i' : M) (l : List ℕ) → (u ≡ true → v ≡ true → ⊥) → both ≡ r.add i (sum_by r w l) → (u ≡ true → both' ≡ r.unit) → (v ≡ true → both' ≡ i') → cond (u || v) (r.add both (r.mul (w b) both')) both ≡ r.add (cond v (r.add i (r.mul (w b) i')) i) (sum_by r w (cond u (b ∷ l) l))

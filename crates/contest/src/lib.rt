@@ -1,4 +1,6 @@
 // Contests of bids that stand and clash: their totals, awards and charges. Theorems only.
+#![tactic(auto)]
+
 ghost use Rattle.contest.specs.Nest.{Splits};
 ghost use Rattle.contest.specs.Lots.{NestIsSets};
 ghost use Rattle.contest.specs.Appraised.{WaysCounted, TopFetched};

@@ -5,7 +5,7 @@ use Rattle.contest.specs.Contest.{award}
 use Rattle.contest.specs.Descent.{Marks}
 use Rattle.contest.specs.Nest.{Nested}
 use Rattle.contest.proofs.Weigh.{total_worths}
-use Rattle.contest.proofs.Listing.{getD_mapped}
+use Rattle.contest.proofs.Listing.{get_or_mapped}
 use Rattle.bids.specs.declared.bid.Bid.{Bid}
 use Rattle.bids.specs.Limits.{max_packages, max_bids}
 use Rattle.nest.specs.declared.nest.Nest.{Nest}
@@ -71,4 +71,4 @@ pub worth_list : {S M : Type 0} (r : Semiring M) (f : S → M) (xs : List S) (d 
 worth_list r f xs d zero low high = absurd (omega arith)
 worth_list r f xs d (suc k) low high =
     let e : suc k - 1 ≡ k = omega arith in
-    ap (λ i. f (get_or xs i d)) e ∙ sym (getD_mapped f xs k r.nought d high)
+    ap (λ i. f (get_or xs i d)) e ∙ sym (get_or_mapped f xs k r.nought d high)

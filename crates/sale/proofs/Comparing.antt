@@ -10,7 +10,7 @@ use Rattle.packages.specs.Nest.{relation_of}
 use Rattle.packages.specs.Places.{package_at, no_lots}
 use Rattle.packages.specs.SetsLemmas.{stands_so, apart_says, apart_from}
 use Rattle.contest.specs.Telling.{Same}
-use Rattle.contest.proofs.Listing.{getD_mapped}
+use Rattle.contest.proofs.Listing.{get_or_mapped}
 use Rattle.bids.specs.declared.bid.Bid.{Bid}
 use Rattle.bids.specs.Bids.{no_bid, bid_at}
 use Rattle.books.specs.Book.{Book}
@@ -21,7 +21,7 @@ use Rattle.sale.specs.Compared.{shares, clash_in, AlikeAt}
 
 -- a package read by its place
 pub read_package : {P : Type 0} (m : P → Lots) (packages : List P) (g : ℕ) (p : P) → g - 1 < length packages → p ≡ get_or packages (g - 1) p → m p ≡ package_at (map m packages) g
-read_package m packages g p low read = ap m read ∙ sym (getD_mapped m packages (g - 1) no_lots p low)
+read_package m packages g p low read = ap m read ∙ sym (get_or_mapped m packages (g - 1) no_lots p low)
 
 -- Sets that are not empty share a lot unless they are apart.
 pub shares_is : (s t : Lots) (i j : ℕ) → has s i ≡ true → has t j ≡ true → shares (relation_of s t) ≡ not (apart s t)

@@ -8,7 +8,7 @@ use Rattle.packages.specs.Places.{package_at, no_lots}
 use Rattle.contest.specs.Contest.{award, sum_over}
 use Rattle.contest.specs.Descent.{Marks, marked}
 use Rattle.contest.proofs.Awarding.{award_is}
-use Rattle.contest.proofs.Listing.{getD_mapped}
+use Rattle.contest.proofs.Listing.{get_or_mapped}
 use Rattle.contest.proofs.Passes.{sum_more, item_next, marked_is}
 use Rattle.contest.proofs.Sums.{sum_same}
 use Rattle.books.specs.Contests.{contest_of}
@@ -19,7 +19,7 @@ use Rattle.sale.specs.Awards.{size_in}
 
 -- a package read by its number
 pub size_read : {P : Type 0} (m : P → Lots) (packages : List P) (g : ℕ) (p : P) → g - 1 < length packages → p ≡ get_or packages (g - 1) p → size_of (m p) ≡ size_of (package_at (map m packages) g)
-size_read m packages g p low read = ap (λ x. size_of (m x)) read ∙ ap size_of (sym (getD_mapped m packages (g - 1) no_lots p low))
+size_read m packages g p low read = ap (λ x. size_of (m x)) read ∙ ap size_of (sym (get_or_mapped m packages (g - 1) no_lots p low))
 
 pub sizes_more : (n : ℕ) (marks : List ℕ) (packages : List Lots) (bids : List Bid) (a v : ℕ) → a ≡ sum_over n (marked marks) (size_in packages bids)
     → v ≡ cond (eqb (get_or marks n 0) 1) (size_of (package_at packages (get_or bids n no_bid).«package»)) 0 → a + v ≡ sum_over (n + 1) (marked marks) (size_in packages bids)

@@ -3,7 +3,7 @@ ghost use Rattle.std.specs.Prelude.{◌≡◌, min, false, ◌++◌, drop, IfSom
 ghost use Rattle.bids.specs.Limits.{max_packages};
 ghost use Rattle.salefile.specs.FileContents.{contents_of, run_set};
 ghost use Rattle.salefile.specs.Orderly.{Orderly};
-ghost use Rattle.books.specs.Book.{load as loadCall, file_book};
+ghost use Rattle.books.specs.Book.{load as load_call, file_book};
 ghost use Rattle.books.specs.Loading.{Standing};
 ghost use Rattle.sale.specs.Holds.{Holds, Obeys};
 ghost use Rattle.sale.specs.Loaded.{Stored};
@@ -36,7 +36,7 @@ impl Sale<Run> {
 
     // Loads a file, and answers the number of its bids.
     pub fn load(&mut self, heap: Global, file: &[u8]) -> Result<usize, LoadFault>
-        ensures rules { IfSome (load_reply result) (λ a. Obeys run_set self.old self.new (loadCall file.now) a) }
+        ensures rules { IfSome (load_reply result) (λ a. Obeys run_set self.old self.new (load_call file.now) a) }
         ensures table { Stored file.now self.old.table.items result self.new.table.items }
         ensures refused { is_ok result ≡ false → self.new ≡ self.old }
     {

@@ -1,6 +1,6 @@
 // Lodging and withdrawing bids.
 ghost use Rattle.std.specs.Prelude.{◌≡◌, false, is_ok};
-ghost use Rattle.books.specs.Book.{lodge as lodgeCall, withdraw as withdrawCall};
+ghost use Rattle.books.specs.Book.{lodge as lodge_call, withdraw as withdraw_call};
 ghost use Rattle.sale.specs.Holds.{Obeys};
 ghost use Rattle.sale.specs.Refusals.{reply, lodge_refusal, withdraw_refusal};
 
@@ -13,7 +13,7 @@ use packages::Package;
 impl<P: Package> Sale<P> {
     // Lodges a bid, and answers its number.
     pub fn lodge(&mut self, buyer: u32, price: u32, package: usize) -> Result<usize, LodgeFault>
-        ensures rules { Obeys P.Package.meaning self.old self.new (lodgeCall buyer price «package») (reply lodge_refusal result) }
+        ensures rules { Obeys P.Package.meaning self.old self.new (lodge_call buyer price «package») (reply lodge_refusal result) }
         ensures table { self.new.table ≡ self.old.table }
         ensures refused { is_ok result ≡ false → self.new ≡ self.old }
     {
@@ -37,7 +37,7 @@ impl<P: Package> Sale<P> {
 
     // Withdraws the bid numbered `number`, and answers its price.
     pub fn withdraw(&mut self, number: usize) -> Result<u32, WithdrawFault>
-        ensures rules { Obeys P.Package.meaning self.old self.new (withdrawCall number) (reply withdraw_refusal result) }
+        ensures rules { Obeys P.Package.meaning self.old self.new (withdraw_call number) (reply withdraw_refusal result) }
         ensures table { self.new.table ≡ self.old.table }
         ensures refused { is_ok result ≡ false → self.new ≡ self.old }
     {

@@ -1,6 +1,6 @@
 // Making a sale.
 ghost use Rattle.std.specs.Prelude.{◌≡◌, vec_len, MatchResult};
-ghost use Rattle.books.specs.History.{making as makingOf, book_of};
+ghost use Rattle.books.specs.History.{making as making_of, book_of};
 ghost use Rattle.sale.specs.Holds.{Holds};
 
 use crate::state::Sale;
@@ -13,7 +13,7 @@ impl<P: Package> Sale<P> {
     // A sale of `lots` lots, or of none where the kind has no such lot, with `table` for its packages.
     // Where memory is wanting the table comes back.
     pub fn new(heap: Global, lots: u32, table: Vec<P>) -> Result<Sale<P>, Vec<P>>
-        ensures { MatchResult result (λ s. Holds P.Package.meaning s (book_of (makingOf P.Package.highest lots (vec_len table))) × (s.table ≡ table)) (λ back. back ≡ table) }
+        ensures { MatchResult result (λ s. Holds P.Package.meaning s (book_of (making_of P.Package.highest lots (vec_len table))) × (s.table ≡ table)) (λ back. back ≡ table) }
     {
         let Ok(parents) = Vec::with_capacity(heap, MAX_PACKAGES) else {
             return Err(table);

@@ -8,7 +8,7 @@ use Rattle.bids.specs.declared.bid.Bid.{Bid}
 use Rattle.salefile.specs.FileContents.{FileContents}
 use Rattle.lines.specs.Kinds.{Kind, header, opening, closing, lot, bid, remark, ending}
 use Rattle.lines.specs.Rows.{Row, rows_of, Tells}
-use Rattle.salefile.specs.Blocks.{is_bid, lots, bids, Balanced, none, plain, block, Innermost}
+use Rattle.salefile.specs.Blocks.{is_bid, bids, Balanced, none, plain, block, Innermost}
 use Rattle.salefile.specs.Files.{Item, over, illegible, line, Begins, FirstIs, BeginsWith, Check, after_end, no_header, bad_line, none_open, out_of_range, no_space, too_many_bids, no_lots, same_lots, unclosed, no_end, number, order, Ended, Fails, First, Clear, Sound, Rejects, Packaged, Lodged, Describes, Accepted, Refused}
 use Rattle.salefile.specs.Unique.{Unique}
 use Rattle.lines.proofs.Decoding.{tells_one}

@@ -33,10 +33,10 @@ Nest [] ks = Balanced ks
 Nest (o ∷ os) ks = (b : List Kind) × (i : List Kind) × Innermost ks b i × Opens o b × Nest os b
 
 -- what is kept of the lines ks, the first of which is the header and none of which is the end
-pub record Kept (ks : List Kind) (lotCount : ℕ) (runs : List Run) (stack : List Opened) (all : List Bid) : Type 0 where
+pub record Kept (ks : List Kind) (counted : ℕ) (runs : List Run) (stack : List Opened) (all : List Bid) : Type 0 where
   pub begun : ks ≡ [] → ⊥
   pub going : Ended ks → ⊥
-  pub lot_count : lotCount ≡ lots ks
+  pub lot_count : counted ≡ lots ks
   pub packaged : Packaged ks runs
   pub nest : Nest (reverse stack) ks
   pub lodged : Lodged ks all

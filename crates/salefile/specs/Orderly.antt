@@ -5,7 +5,7 @@
 --   AllOrderly   so is every accepted file
 --   InNest       the same of the packages as sets of lots: they are a nest, and the bids are on them
 --   AllNested    so is every accepted file
-use Rattle.std.specs.Prelude.{◌≡◌, ℕ, ◌<◌, ◌≤◌, ◌⊎◌, List, length, get_or, ◌≢◌, slice_index_or}
+use Rattle.std.specs.Prelude.{ℕ, ◌<◌, ◌≤◌, ◌⊎◌, List, length, get_or, ◌≢◌, slice_index_or}
 use Rattle.packages.specs.declared.run.Run.{Run}
 use Rattle.bids.specs.Limits.{max_bids}
 use Rattle.salefile.specs.Limits.{max_bytes}

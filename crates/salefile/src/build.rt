@@ -1,6 +1,6 @@
 // How a file is read into a draft, line by line.
 ghost use Rattle.std.specs.Prelude.{◌≡◌, ℕ, ◌+◌, ◌-◌, ◌<◌, ◌≤◌, ◌&&◌, [], ◌∷◌, length, IfOk, MatchBool, ◌≢◌, slice_index_or};
-ghost use Rattle.lines.specs.Kinds.{Numeral, Proper, value, ending, header, opening, closing, lot as lotLine, bid as bidLine};
+ghost use Rattle.lines.specs.Kinds.{Numeral, Proper, value, ending, header, opening, closing, lot as lot_line, bid as bid_line};
 ghost use Rattle.lines.specs.Reader.{kind_of};
 ghost use Rattle.bids.specs.Limits.{is_buyer, is_price, max_packages};
 ghost use Rattle.salefile.specs.Draft.{SomeDraft, Finishes, Keeps, Step};
@@ -58,7 +58,7 @@ impl Draft {
 
     pub(crate) fn lot(&mut self, line: usize) -> Result<(), Fault>
         requires { self.old.lots < 65535 }
-        ensures { (space : ℕ) → Step space line lotLine self.old result self.new }
+        ensures { (space : ℕ) → Step space line lot_line self.old result self.new }
     {
         self.lots += 1;
         Ok(())
@@ -106,7 +106,7 @@ impl Draft {
 
     pub(crate) fn bid(&mut self, line: usize, buyer: &[u8], price: &[u8]) -> Result<(), Fault>
         requires { (SomeDraft self.old) × ((Numeral buyer.now) × (Numeral price.now)) }
-        ensures { (space : ℕ) → Step space line (bidLine buyer.now price.now) self.old result self.new }
+        ensures { (space : ℕ) → Step space line (bid_line buyer.now price.now) self.old result self.new }
     {
         let Some(top) = self.unclosed.last() else {
             return Err(Fault::NoneOpen { line });

@@ -1,6 +1,6 @@
 // Why a file is refused, and why reading it fails.
 ghost use Rattle.std.specs.Prelude.{◌≡◌};
-ghost use Rattle.salefile.specs.Refusals.{refusal as refusalOf, read_refusal};
+ghost use Rattle.salefile.specs.Refusals.{refusal as refusal_of, read_refusal};
 ghost use Rattle.salefile.specs.declared.fault.Fault.TheVariants.{BadLine};
 ghost use Rattle.salefile.specs.declared.fault.ReadFault.TheVariants.{NoMemory, File};
 
@@ -39,7 +39,7 @@ pub enum Fault {
 impl Fault {
     // The number of the refusal and its place.
     pub fn refusal(self) -> (u8, usize)
-        ensures { result ≡ refusalOf self }
+        ensures { result ≡ refusal_of self }
     {
         match self {
             Fault::TooLong => (1, 0),

@@ -1,4 +1,6 @@
 // 1994 sale files: what a whole file says, or why it is refused.
+#![tactic(auto)]
+
 mod build;
 pub mod contents;
 mod draft;

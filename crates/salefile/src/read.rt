@@ -1,7 +1,7 @@
 // A whole file, read from its first line to its last.
 ghost use Rattle.std.specs.Prelude.{◌≡◌, ℕ, ◌+◌, ◌≤◌, min, List, [], ◌∷◌, length, Err, MatchResult, ◌≢◌};
 ghost use Rattle.salefile.specs.declared.fault.Fault.TheVariants.{AfterEnd};
-ghost use Rattle.lines.specs.Kinds.{Kind, header as headerLine};
+ghost use Rattle.lines.specs.Kinds.{Kind, header as header_line};
 ghost use Rattle.salefile.specs.Files.{Outcome, ReadOutcome, BeginsWith, Item, Sound, over as nothing};
 ghost use Rattle.bids.specs.Limits.{max_packages};
 ghost use Rattle.salefile.specs.Limits.{max_bytes};
@@ -17,7 +17,7 @@ use std::alloc::Global;
 
 // The first line, which is the header.
 fn header(lines: &mut LineReader) -> Result<(), Fault>
-    ensures { (file : List ℕ) (space : ℕ) → Reached file [] lines.old → length file ≤ max_bytes → MatchResult result (λ _. Reached file (headerLine ∷ []) lines.new × Sound space (headerLine ∷ [])) (λ f. Outcome file space (Err f)) }
+    ensures { (file : List ℕ) (space : ℕ) → Reached file [] lines.old → length file ≤ max_bytes → MatchResult result (λ _. Reached file (header_line ∷ []) lines.new × Sound space (header_line ∷ [])) (λ f. Outcome file space (Err f)) }
 {
     let Ok(next) = lines.next() else {
         return Err(Fault::NoHeader);
@@ -65,7 +65,7 @@ fn over(lines: &mut LineReader) -> Result<(), Fault>
 
 // What the file says, in a sale with space for so many packages, all read into the draft.
 fn fill(mut draft: Draft, file: &[u8], space: usize) -> Result<Contents, Fault>
-    requires { (Keeps (headerLine ∷ []) draft) × (space ≤ max_packages) }
+    requires { (Keeps (header_line ∷ []) draft) × (space ≤ max_packages) }
     ensures { Outcome file.now space result }
 {
     if file.len() > MAX_BYTES {

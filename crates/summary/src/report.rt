@@ -1,6 +1,6 @@
 // The report on a file.
 ghost use Rattle.std.specs.Prelude.{ℕ, IfOk, MatchOption};
-ghost use Rattle.books.specs.Book.{Book, accepted as acceptedWith, refused as refusedBy};
+ghost use Rattle.books.specs.Book.{Book, accepted as accepted_with, refused as refused_by};
 ghost use Rattle.sale.specs.Questions.{ByBook};
 ghost use Rattle.sale.specs.Refusals.{load_refusal};
 ghost use Rattle.summary.specs.Worked.{WorkedTexts};
@@ -22,7 +22,7 @@ pub struct FileReport {
 
 // The report of a sale that has taken up a file.
 fn accepted_report<P: Package>(heap: Global, sale: &Sale<P>) -> Result<FileReport, AllocError>
-    ensures { IfOk result (λ t. ByBook P.Package.meaning sale.now (λ b. (bids : ℕ) → Reported b (acceptedWith bids) t)) }
+    ensures { IfOk result (λ t. ByBook P.Package.meaning sale.now (λ b. (bids : ℕ) → Reported b (accepted_with bids) t)) }
 {
     let text = Summary::of(heap, sale)?.text(heap)?;
     Ok(FileReport {
@@ -33,7 +33,7 @@ fn accepted_report<P: Package>(heap: Global, sale: &Sale<P>) -> Result<FileRepor
 
 // The report of a refusal.
 fn refused_report(heap: Global, fault: LoadFault) -> Result<FileReport, AllocError>
-    ensures { IfOk result (λ t. MatchOption (load_refusal fault) ⊥ (λ p. (b : Book) → Reported b (refusedBy p) t)) }
+    ensures { IfOk result (λ t. MatchOption (load_refusal fault) ⊥ (λ p. (b : Book) → Reported b (refused_by p) t)) }
 {
     let Some((number, line)) = fault.refusal() else {
         return Err(AllocError);

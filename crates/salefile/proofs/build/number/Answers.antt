@@ -1,14 +1,14 @@
-use Rattle.std.proofs.Common.{ℕ, ◌+◌, ◌-◌, ◌*◌, ◌≤◌, length, take, sym, ap, ◌∙◌, arith}
+use Rattle.std.proofs.Common.{ℕ, ◌+◌, ◌*◌, ◌≤◌, length, take, sym, ap, ◌∙◌, arith}
 use Rattle.std.proofs.lemmas.List.{take_all}
 use Rattle.lines.specs.Kinds.{value}
 use Rattle.salefile.proofs.Numbers.{value_more, below_more, below_ten}
 use Rattle.salefile.proofs.build.number.Goals as goal
 
-pub overflow-mul-n : goal.overflow-mul-n
-overflow-mul-n c = let b = below_ten c.loop-d.n c.loop-d.d-index c.loop-d.invariant.1 (omega arith) in omega arith
+pub overflow_mul-n : goal.overflow_mul-n
+overflow_mul-n c = let b = below_ten c.loop-d.n c.loop-d.d-index c.loop-d.invariant.1 (omega arith) in omega arith
 
-pub overflow-add-n : goal.overflow-add-n
-overflow-add-n c =
+pub overflow_add-n : goal.overflow_add-n
+overflow_add-n c =
     let b = below_ten c.loop-d.n c.loop-d.d-index c.loop-d.invariant.1 (omega arith) in
     let d = c.requires.digits c.loop-d.d-index c.loop-d-test.true in
     omega arith

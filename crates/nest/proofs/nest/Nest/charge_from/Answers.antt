@@ -24,8 +24,8 @@ both c =
     (c.amount.ensures ∙ ap crowns c.total_from-best.ensures.total
     ∙ without_is ps bs b (below_top ps bs (lower_of n ps bs refl refl) (placed_of n ps bs refl refl) (bids_few n ps bs refl refl) (without it b) refl (λ k. refl))))
 
-pub overflow-sub-result : goal.overflow-sub-result
-overflow-sub-result c = (both c).0
+pub overflow_sub-result : goal.overflow_sub-result
+overflow_sub-result c = (both c).0
 
 pub returns : goal.returns
 returns c = (both c).1

@@ -19,8 +19,8 @@ loop-g-init g c =
     (passing_start s.meaning g.met.S.Scale.laws (nest_contest ps bs) (parent_in ps) (on_in bs) (length ps) nest _ c.clear.new.work c.unit-result.result (omega arith) c.clear.ensures.units c.unit-result.ensures, refl)
 
 -- the parent of a package is an earlier one
-pub offset-bounds-work-p-in-Some : goal.offset-bounds-work-p-in-Some
-offset-bounds-work-p-in-Some g c =
+pub offset_bounds-work-p-in-Some : goal.offset_bounds-work-p-in-Some
+offset_bounds-work-p-in-Some g c =
     let ps = c.as_slice-parents.result.now in
     let bs = c.as_slice-bids.result.now in
     let at = c.loop-g.g - 1 in

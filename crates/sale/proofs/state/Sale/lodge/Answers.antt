@@ -29,8 +29,8 @@ returns-then-package-lt1 g c = record {
   refused = λ _. refl;
 }
 
-pub returns-then-len-ge-MAX-BIDS : goal.returns-then-len-ge-MAX-BIDS
-returns-then-len-ge-MAX-BIDS g c = record {
+pub returns-then-len-ge-MAX_BIDS : goal.returns-then-len-ge-MAX_BIDS
+returns-then-len-ge-MAX_BIDS g c = record {
   rules = λ h held.
       let m = g.P.Package.meaning in
       let count = packages_counted m c.args.self.now (book_of h) held in
@@ -43,8 +43,8 @@ returns-then-len-ge-MAX-BIDS g c = record {
   refused = λ _. refl;
 }
 
-pub invariant-of-self : goal.invariant-of-self
-invariant-of-self g c =
+pub invariant_of-self : goal.invariant_of-self
+invariant_of-self g c =
     let s = c.args.self.now in
     let cheap = (between 1 highest_price c.args.price (passes is_price c.from-2.result c.args.price c.from-2.ensures c.if-not-is_price.ensures)).1 in
     let new = c.new.ensures in

@@ -25,8 +25,8 @@ returns-then-package_space-count g c = record {
   refused = λ _. refl;
 }
 
-pub invariant-of-self : goal.invariant-of-self
-invariant-of-self g c =
+pub invariant_of-self : goal.invariant_of-self
+invariant_of-self g c =
     let m = g.P.Package.meaning in
     let s = c.args.self.now in
     let parents = vec_items s.nest.parents in

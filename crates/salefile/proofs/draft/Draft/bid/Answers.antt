@@ -1,4 +1,4 @@
-use Rattle.std.proofs.Common.{◌≡◌, ◌+◌, ◌-◌, ◌&&◌, [], ◌∷◌, ◌++◌, length, take, vec_items, sym, refl, ap, ◌∙◌, subst, arith, rules}
+use Rattle.std.proofs.Common.{◌≡◌, ◌-◌, ◌&&◌, [], ◌∷◌, ◌++◌, length, take, vec_items, sym, refl, ap, ◌∙◌, subst, arith, rules}
 use Rattle.lines.specs.Kinds.{value}
 use Rattle.bids.specs.Limits.{is_buyer, is_price}
 use Rattle.salefile.proofs.Ranges.{ranged, beyond}
@@ -17,8 +17,8 @@ last c =
     let i = c.in-Some.ensures.item in
     subst (λ l. l ≡ take (length l - 1) l ++ (c.in-Some.top.now ∷ [])) s (last_split _ _ i.3.0 i.1)
 
-pub overflow-add-package : goal.overflow-add-package
-overflow-add-package c = let w = top_within c.requires.0.0 _ _ _ _ c.requires.0.1 _ _ (last c) in search rules
+pub overflow_add-package : goal.overflow_add-package
+overflow_add-package c = let w = top_within c.requires.0.0 _ _ _ _ c.requires.0.1 _ _ (last c) in search rules
 
 -- the test of the numbers is one of the values that they write
 written : (c : After-in_range) → c.in_range.result ≡ (is_buyer (value c.args.buyer.now) && is_price (value c.args.price.now))
@@ -30,10 +30,10 @@ returns-then-not-in_range c space ks h e =
     reject_range space ks h.begun h.going _ _ _ t.0 t.1 e t.2
     (beyond _ _ (sym (written (goal.at.returns-then-not-in_range c).After-in_range) ∙ c.if-not-in_range.true))
 
-pub returns-then-len-ge-MAX-BIDS : goal.returns-then-len-ge-MAX-BIDS
-returns-then-len-ge-MAX-BIDS c space ks h e =
-    let t = top ks _ _ _ _ h _ _ (last (goal.at.returns-then-len-ge-MAX-BIDS c).In-Some) in
-    let r = ranged _ _ (sym (written (goal.at.returns-then-len-ge-MAX-BIDS c).After-in_range) ∙ c.if-not-in_range.false) in
+pub returns-then-len-ge-MAX_BIDS : goal.returns-then-len-ge-MAX_BIDS
+returns-then-len-ge-MAX_BIDS c space ks h e =
+    let t = top ks _ _ _ _ h _ _ (last (goal.at.returns-then-len-ge-MAX_BIDS c).In-Some) in
+    let r = ranged _ _ (sym (written (goal.at.returns-then-len-ge-MAX_BIDS c).After-in_range) ∙ c.if-not-in_range.false) in
     reject_bids space ks h.begun h.going _ _ _ t.0 t.1 e t.2 r (omega (arith, h.lodged.many))
 
 pub returns : goal.returns

@@ -1,4 +1,4 @@
-use Rattle.std.proofs.Common.{◌-◌, ◌<◌, length, vec_items, refl, ap, arith, rules}
+use Rattle.std.proofs.Common.{◌<◌, length, vec_items, refl, ap, arith, rules}
 use Rattle.salefile.proofs.Steps.{top, top_within, nothing_open, lots_inside, close_top, again, afresh}
 use Rattle.salefile.proofs.Checks.{clear_close, reject_close_none, reject_no_lots, reject_same_lots}
 use Rattle.salefile.proofs.draft.Draft.close.Goals as goal
@@ -11,20 +11,20 @@ returns-then-run c space ks h e =
     let t = top ks _ _ _ _ h _ _ c.in-Some.ensures.items in
     reject_no_lots space ks h.begun h.going _ t.0 t.1 e t.2 (omega (arith, lots_inside ks _ _ _ _ h t.0 t.1 t.2, t.3.2))
 
-within : (c : goal.After-struct-known-2·1) → c.in-Some.top.«package» < length (vec_items c.args.self.now.packages)
+within : (c : goal.After-struct_known-2-1) → c.in-Some.top.«package» < length (vec_items c.args.self.now.packages)
 within c = top_within c.requires.0 _ _ _ _ c.requires.1 _ _ c.in-Some.ensures.items
 
-pub overflow-add-top : goal.overflow-add-top
-overflow-add-top c = let w = within c in search rules
+pub overflow_add-top : goal.overflow_add-top
+overflow_add-top c = let w = within c in search rules
 
-pub offset-bounds-packages-top : goal.offset-bounds-packages-top
-offset-bounds-packages-top c = let w = within c in let l = ap length c.as_slice-packages.ensures.value in search rules
+pub offset_bounds-packages-top : goal.offset_bounds-packages-top
+offset_bounds-packages-top c = let w = within c in let l = ap length c.as_slice-packages.ensures.value in search rules
 
-pub slice-bounds-any_is-count : goal.slice-bounds-any_is-count
-slice-bounds-any_is-count c = let w = within c in let l = ap length c.as_slice-packages.ensures.value in omega arith
+pub slice_bounds-any_is-count : goal.slice_bounds-any_is-count
+slice_bounds-any_is-count c = let w = within c in let l = ap length c.as_slice-packages.ensures.value in omega arith
 
-pub slice-bounds-any_is-start : goal.slice-bounds-any_is-start
-slice-bounds-any_is-start c = let w = within c in let l = ap length c.as_slice-packages.ensures.value in search rules
+pub slice_bounds-any_is-start : goal.slice_bounds-any_is-start
+slice_bounds-any_is-start c = let w = within c in let l = ap length c.as_slice-packages.ensures.value in search rules
 
 pub returns-then-any_is : goal.returns-then-any_is
 returns-then-any_is c space ks h e =
@@ -34,8 +34,8 @@ returns-then-any_is c space ks h e =
     reject_same_lots space ks h.begun h.going _ t.0 t.1 e t.2 (omega (arith, t.3.2))
     (again ks _ _ _ _ h t.0 t.1 t.2 _ c.as_slice-packages.ensures.value _ t.3.0 _ t.3.2 refl f.0 f.1 f.2)
 
-pub index-mut-requires : goal.index-mut-requires
-index-mut-requires c = let w = top_within c.requires.0 _ _ _ _ c.requires.1 _ _ c.in-Some.ensures.items in omega arith
+pub index_mut-requires : goal.index_mut-requires
+index_mut-requires c = let w = top_within c.requires.0 _ _ _ _ c.requires.1 _ _ c.in-Some.ensures.items in omega arith
 
 pub returns : goal.returns
 returns c space ks h e =

@@ -1,4 +1,4 @@
-use Rattle.std.proofs.Common.{◌≡◌, ◌+◌, ◌-◌, [], ◌∷◌, ◌++◌, length, take, vec_items, ap, subst, arith}
+use Rattle.std.proofs.Common.{◌≡◌, ◌-◌, [], ◌∷◌, ◌++◌, length, take, vec_items, ap, subst, arith}
 use Rattle.salefile.proofs.Steps.{top, nothing_open, last_split, ended_lots, ended_packaged, ended_lodged}
 use Rattle.salefile.proofs.Checks.{reject_end}
 use Rattle.salefile.proofs.draft.Draft.finish.Goals as goal

@@ -3,8 +3,8 @@ use Rattle.salefile.proofs.Steps.{open_top}
 use Rattle.salefile.proofs.Checks.{clear_open, reject_open}
 use Rattle.salefile.proofs.draft.Draft.open.Goals as goal
 
-pub returns-then-package_space : goal.returns-then-package_space
-returns-then-package_space c ks h e = reject_open _ ks h.begun h.going _ e (omega (arith, h.packaged.many))
+pub returns-then-package-space : goal.returns-then-package-space
+returns-then-package-space c ks h e = reject_open _ ks h.begun h.going _ e (omega (arith, h.packaged.many))
 
 pub returns : goal.returns
 returns c ks h e = (
