@@ -1,5 +1,5 @@
 -- In every book that a history reaches, the contest by shared lots is that of the nest.
-use Rattle.std.proofs.Common.{◌≡◌, ℕ, zero, suc, ◌-◌, ◌<◌, ◌≤◌, Bool, true, not, ◌&&◌, ◌⊎◌, ◌↔◌, List, length, get_or, Some, None, Option, sym, refl, ap, subst, inl, inr, ⊎_elim, arith}
+use Rattle.std.proofs.Common.{◌≡◌, ℕ, zero, suc, ◌-◌, ◌<◌, ◌≤◌, Bool, true, not, ◌&&◌, ◌↔◌, List, length, get_or, Some, None, Option, sym, refl, ap, subst, inl, inr, ⊎_elim, arith}
 use Rattle.std.proofs.lemmas.Bool.{cases_eq, cases_Bool, both_ways, not-true, not_from_false, and_parts}
 use Rattle.packages.specs.Lots.{Lots, has, within, apart}
 use Rattle.packages.specs.Places.{package_at, Numbered}

@@ -17,7 +17,7 @@ loop-i-preserved c =
       | then-marks-i-eq1+in-ok-push w ↦
           let winner : Bid → Winner = λ b. record { number = i + 1; buyer = b.buyer; price = b.price } in
           listed_in (winner_in bids) (marked marks) i _ _ _ (marked_next marks i w.if-marks-i-eq1.true) (ap winner (sym (bid_next bids i)))
-          c.loop-i.invariant (ap vec_items w.winners_is ∙ w.in_ok-push.ensures.items)
+          c.loop-i.invariant (ap vec_items w.winners-is ∙ w.in_ok-push.ensures.items)
       | else-marks-i-eq1 w ↦
-          ap vec_items w.winners_is ∙ listed_out (winner_in bids) (marked marks) i _ (unmarked_next marks i w.if-marks-i-eq1.false) c.loop-i.invariant
+          ap vec_items w.winners-is ∙ listed_out (winner_in bids) (marked marks) i _ (unmarked_next marks i w.if-marks-i-eq1.false) c.loop-i.invariant
     ]

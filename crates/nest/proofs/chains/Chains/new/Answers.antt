@@ -19,14 +19,14 @@ loop-i-preserved c =
     let inv = c.loop-i.invariant in
     elim c.if-not-bid.branch [
       | then-not-bid w ↦ (
-        chained_moved w.last_is w.before-is
+        chained_moved w.last-is w.before-is
             (chained_adds max_packages bids last before i inv.0 p (get_or last (p - 1) 0) w.if-not-bid.true refl t.0 t.1 (omega (arith, inv.1)) (omega (arith, inv.2, c.requires.few, c.loop-i-test.true)) refl),
-        ap length w.last_is ∙ length-set last _ _ ∙ inv.1,
+        ap length w.last-is ∙ length-set last _ _ ∙ inv.1,
         ap length w.before-is ∙ length-set before _ _ ∙ inv.2,
       )
       | else-not-bid w ↦ (
-        chained_moved w.last_is w.before-is (chained_skips max_packages bids last before i inv.0 w.if-not-bid.false),
-        ap length w.last_is ∙ inv.1,
+        chained_moved w.last-is w.before-is (chained_skips max_packages bids last before i inv.0 w.if-not-bid.false),
+        ap length w.last-is ∙ inv.1,
         ap length w.before-is ∙ inv.2,
       )
     ]
