@@ -1,6 +1,7 @@
 -- What a call does to a sale that holds a book.
 use Rattle.std.proofs.Common.{◌≡◌, ℕ, ◌+◌, ◌-◌, ◌<◌, Bool, true, List, [], ◌∷◌, ◌++◌, map, length, take, set, vec_items, vec_len, sym, ap, ◌∙◌, subst, arith}
 use Rattle.std.proofs.lemmas.List.{length-map, length-take-le, take_more_set, map_push}
+use Rattle.packages.specs.declared.package.Package.{Ghosts}
 use Rattle.packages.specs.Lots.{Lots}
 use Rattle.books.specs.Book.{Book, Call, accepted, refused, answer, written, if_accepted}
 use Rattle.books.specs.History.{History, book_of}
@@ -11,10 +12,10 @@ use Rattle.sale.specs.Holds.{permitted, Holds, Conforms}
 pub passes : (test : ℕ → Bool) (x y : ℕ) → x ≡ y → true ≡ test x → test y ≡ true
 passes test x y e t = ap test (sym e) ∙ sym t
 
-pub permitted_counted : {P : Type 0} (s : Sale P) → length (permitted s) ≡ vec_len s.nest.parents
+pub permitted_counted : {P : Type 0} {kind : Ghosts P} (s : Sale P kind) → length (permitted s) ≡ vec_len s.nest.parents
 permitted_counted s = length-take-le (vec_len s.nest.parents) (vec_items s.table) (omega (arith, s.packages_within, s.table.ok.0))
 
-module _ {P : Type 0} (m : P → Lots) (s : Sale P) (b : Book) (held : Holds m s b) where
+module _ {P : Type 0} {kind : Ghosts P} (m : P → Lots) (s : Sale P kind) (b : Book) (held : Holds m s b) where
   abbrev count : ℕ
   count = vec_len s.nest.parents
 
@@ -44,7 +45,7 @@ module _ {P : Type 0} (m : P → Lots) (s : Sale P) (b : Book) (held : Holds m s
       ∙ ap (λ j. map m (take j items) ++ (m p ∷ [])) e
       ∙ ap (λ l. l ++ (m p ∷ [])) held.packages
 
-module _ {P : Type 0} (m : P → Lots) (s : Sale P) (h : History) (c : Call) where
+module _ {P : Type 0} {kind : Ghosts P} (m : P → Lots) (s : Sale P kind) (h : History) (c : Call) where
   -- a refusal leaves the sale as it is
   pub refused_conforms : (r : ℕ × ℕ) → Holds m s (book_of h) → answer (book_of h) c ≡ refused r → Conforms m s h c (refused r)
   refused_conforms r held e = record {

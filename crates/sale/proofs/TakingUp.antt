@@ -4,6 +4,7 @@ use Rattle.std.proofs.lemmas.Bool.{cases_Bool, and_from, and_parts, eq-eqb, eqb-
 use Rattle.std.specs.Option.{option_map}
 use Rattle.bids.specs.Bids.{no_bid}
 use Rattle.bids.specs.Limits.{max_packages}
+use Rattle.packages.specs.declared.package.Package.{Ghosts}
 use Rattle.packages.specs.declared.run.Run.{Run}
 use Rattle.salefile.specs.declared.fault.ReadFault.{ReadFault}
 use Rattle.salefile.specs.declared.fault.ReadFault.TheVariants.{NoMemory, File}
@@ -33,7 +34,7 @@ reply_ok refusal (Err f) n e = absurd (no_refusal (refusal f) n e)
 
 module _ (space : ℕ) (c : FileContents) (ord : Orderly space c) (stand : Standing c.bids) (few : space ≤ max_packages) where
   -- one call of a sale that holds the first i packages
-  pub permit_next : (s s' : Sale Run) (i : ℕ) (a : Answer) → i < length c.packages → Holds run_set s (part c space i 0) → Obeys run_set s s' (permit_call c i) a
+  pub permit_next : {kind : Ghosts Run} (s s' : Sale Run kind) (i : ℕ) (a : Answer) → i < length c.packages → Holds run_set s (part c space i 0) → Obeys run_set s s' (permit_call c i) a
       → Holds run_set s' (part c space (i + 1) 0) × (a ≡ accepted (i + 1))
   permit_next s s' i a lt held obeys =
       let h : History = then_all (making highest_run_lot c.lots space) (permits (take i c.packages)) in
@@ -44,7 +45,7 @@ module _ (space : ℕ) (c : FileContents) (ord : Orderly space c) (stand : Stand
       )
 
   -- one call of a sale that holds all packages and the first j bids
-  pub lodge_next : (s s' : Sale Run) (j : ℕ) (a : Answer) → j < length c.bids → Holds run_set s (part c space (length c.packages) j) → Obeys run_set s s' (lodge_call c j) a
+  pub lodge_next : {kind : Ghosts Run} (s s' : Sale Run kind) (j : ℕ) (a : Answer) → j < length c.bids → Holds run_set s (part c space (length c.packages) j) → Obeys run_set s s' (lodge_call c j) a
       → Holds run_set s' (part c space (length c.packages) (j + 1)) × (a ≡ accepted (j + 1))
   lodge_next s s' j a lt held obeys =
       let h : History = then_all (then_all (making highest_run_lot c.lots space) (permits (take (length c.packages) c.packages))) (lodges (take j c.bids)) in
@@ -56,8 +57,7 @@ module _ (space : ℕ) (c : FileContents) (ord : Orderly space c) (stand : Stand
       )
 
 -- a sale of runs, and the book that it holds
-
-module _ (s : Sale Run) (h : History) (held : Holds run_set s (book_of h)) where
+module _ {kind : Ghosts Run} (s : Sale Run kind) (h : History) (held : Holds run_set s (book_of h)) where
   is_empty_true : vec_len s.nest.parents ≡ 0 → vec_len s.nest.bids ≡ 0 → is_empty (book_of h) ≡ true
   is_empty_true e f =
       and_from (eqb (length (book_of h).packages) 0) (eqb (length (book_of h).bids) 0)
@@ -83,7 +83,7 @@ module _ (s : Sale Run) (h : History) (held : Holds run_set s (book_of h)) where
           refused_conforms run_set s h (load file) (n, p) held
           ((always_loads (book_of h) file).refused_file n p short (is_empty_true no_packages no_bids) (subst (λ m. Refused file m n p) held.space r))
 
-      pub load_accepted : (s' : Sale Run) (c : FileContents) (n : ℕ) → Accepted file (min max_packages (vec_len s.table)) c → length c.bids ≡ n → Holds run_set s' (file_book c (min max_packages (vec_len s.table))) → Conforms run_set s' h (load file) (accepted n)
+      pub load_accepted : (s' : Sale Run kind) (c : FileContents) (n : ℕ) → Accepted file (min max_packages (vec_len s.table)) c → length c.bids ≡ n → Holds run_set s' (file_book c (min max_packages (vec_len s.table))) → Conforms run_set s' h (load file) (accepted n)
       load_accepted s' c n a count now_held =
           let fresh = is_empty_true no_packages no_bids in
           let is : reading (book_of h).space file ≡ says c = sym (exact.only file (book_of h).space (says c) (subst (λ m. Accepted file m c) held.space a)) in
@@ -91,7 +91,7 @@ module _ (s : Sale Run) (h : History) (held : Holds run_set s (book_of h)) where
           (subst (Holds run_set s') (sym (ap (loaded (book_of h)) is)) (subst (λ m. Holds run_set s' (file_book c m)) held.space now_held))
 
 -- a file that could not be read
-pub load_failed : (s : Sale Run) (file : List ℕ) → length file ≤ max_bytes → vec_len s.nest.parents ≡ 0 → vec_len s.nest.bids ≡ 0
+pub load_failed : {kind : Ghosts Run} (s : Sale Run kind) (file : List ℕ) → length file ≤ max_bytes → vec_len s.nest.parents ≡ 0 → vec_len s.nest.bids ≡ 0
     → (f : ReadFault) → ReadOutcome file (min max_packages (vec_len s.table)) (Err f) → IfSome (option_map refused (read_refusal f)) (λ a. Obeys run_set s s (load file) a)
 load_failed s file short no_packages no_bids NoMemory outcome = tt
 load_failed s file short no_packages no_bids (File f) outcome = λ h held. load_refused s h held file short no_packages no_bids (refusal f).0 (refusal f).1 outcome

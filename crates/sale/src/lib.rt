@@ -1,4 +1,6 @@
 // A sealed sale: its packages and its bids.
+#![tactic(auto)]
+
 mod awards;
 pub mod fault;
 mod load;

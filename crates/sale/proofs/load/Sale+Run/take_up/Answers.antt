@@ -30,23 +30,23 @@ loop-run-init c = (
 
 -- the next package is permitted
 permitted_next : (c : After-permit)
-    → Holds run_set c.permit.new.self (part (contents_of c.args.contents.now) (min max_packages (vec_len c.args.self.now.table)) (c.loop-run.run_index + 1) 0)
-    × (reply permit_refusal c.permit.result ≡ accepted (c.loop-run.run_index + 1))
+    → Holds run_set c.permit.new.self (part (contents_of c.args.contents.now) (min max_packages (vec_len c.args.self.now.table)) (c.loop-run.run-index + 1) 0)
+    × (reply permit_refusal c.permit.result ≡ accepted (c.loop-run.run-index + 1))
 permitted_next c =
-    let i : ℕ = c.loop-run.run_index in
+    let i : ℕ = c.loop-run.run-index in
     let value = c.as_slice-run-items.ensures.value in
     let lt : i < length (vec_items c.args.contents.now.packages) = subst (λ l. i < length l) value c.loop-run-test.true in
     let obeys = subst (λ l. Obeys run_set c.loop-run.self c.permit.new.self (permit (run_set (get_or l i no_run))) (reply permit_refusal c.permit.result)) value c.permit.ensures.rules in
     permit_next (min max_packages (vec_len c.args.self.now.table)) (contents_of c.args.contents.now) c.requires.1.1.0 c.requires.1.1.1 (omega arith) c.loop-run.self c.permit.new.self i (reply permit_refusal c.permit.result) lt c.loop-run.invariant.0 obeys
 
 pub unwrap-requires : goal.unwrap-requires
-unwrap-requires c = reply_ok permit_refusal c.permit.result (c.loop-run.run_index + 1) (permitted_next (goal.at.unwrap-requires c).After-permit).1
+unwrap-requires c = reply_ok permit_refusal c.permit.result (c.loop-run.run-index + 1) (permitted_next (goal.at.unwrap-requires c).After-permit).1
 
 pub loop-run-preserved : goal.loop-run-preserved
 loop-run-preserved c =
     let says : FileContents = contents_of c.args.contents.now in
     let space : ℕ = min max_packages (vec_len c.args.self.now.table) in
-    let i : ℕ = c.loop-run.run_index in
+    let i : ℕ = c.loop-run.run-index in
     let R : List Run = vec_items c.args.contents.now.packages in
     let T : List Run = vec_items c.args.self.now.table in
     let ord : Orderly space says = c.requires.1.1.0 in
@@ -66,10 +66,10 @@ loop-bid-init c =
     let says : FileContents = contents_of c.args.contents.now in
     let R : List Run = vec_items c.args.contents.now.packages in
     let size = ap length c.as_slice-run-items.ensures.value in
-    let end : c.loop-run.run_index ≡ length R = omega (arith, c.loop-run-test.false, c.loop-run.auto.run-index-end) in
+    let end : c.loop-run.run-index ≡ length R = omega (arith, c.loop-run-test.false, c.loop-run.auto.run-index-end) in
     let held = c.loop-run.invariant.0 in (
       subst (λ n. Holds run_set c.loop-run.self (part says (min max_packages (vec_len c.loop-run.self.table)) n 0)) end
-          (subst (λ m. Holds run_set c.loop-run.self (part says m c.loop-run.run_index 0)) (sym held.space) held),
+          (subst (λ m. Holds run_set c.loop-run.self (part says m c.loop-run.run-index 0)) (sym held.space) held),
       refl,
     )
 
@@ -109,7 +109,7 @@ returns c =
     let size = ap length c.as_slice-bid-items.ensures.value in
     let size_runs = ap length c.as_slice-run-items.ensures.value in
     let end : c.loop-bid.bid-index ≡ length says.bids = omega (arith, c.loop-bid-test.false, c.loop-bid.auto.bid-index-end) in
-    let end_runs : c.loop-run.run_index ≡ length R = omega (arith, c.loop-run-test.false, c.loop-run.auto.run-index-end) in
+    let end_runs : c.loop-run.run-index ≡ length R = omega (arith, c.loop-run-test.false, c.loop-run.auto.run-index-end) in
     let held = subst (λ j. Holds run_set c.loop-bid.self (part says space (length R) j)) end (subst (λ m. Holds run_set c.loop-bid.self (part says m (length R) c.loop-bid.bid-index)) same c.loop-bid.invariant.0) in
     record {
       holds = subst (Holds run_set c.loop-bid.self) (part_all space says ord c.requires.1.1.1 (omega arith)) held;
