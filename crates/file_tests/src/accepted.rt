@@ -24,8 +24,11 @@ fn the_worked_file(rt: HostRuntime) -> Result<(), Fail> {
                 Run { first: 1, last: 1 },
                 Run { first: 2, last: 2 },
             ]
+            .as_slice()
     );
-    assert!(rt; c.bids.as_slice() == [Bid::new(1, 10, 1), Bid::new(2, 6, 2), Bid::new(3, 5, 3)]);
+    assert!(rt;
+        c.bids.as_slice() == [Bid::new(1, 10, 1), Bid::new(2, 6, 2), Bid::new(3, 5, 3)].as_slice()
+    );
     Ok(())
 }
 
@@ -58,6 +61,7 @@ fn lots_count_from_the_first_line(rt: HostRuntime) -> Result<(), Fail> {
                 Run { first: 3, last: 3 },
                 Run { first: 6, last: 6 },
             ]
+            .as_slice()
     );
     Ok(())
 }
@@ -75,6 +79,7 @@ fn bids_lie_on_the_innermost_open_package(rt: HostRuntime) -> Result<(), Fail> {
                 Bid::new(999, 1_000_000_000, 1),
                 Bid::new(7, 8, 3),
             ]
+            .as_slice()
     );
     Ok(())
 }

@@ -38,8 +38,10 @@ fn a_file_takes_the_place_of_an_empty_sale(rt: HostRuntime) -> Result<(), Fail> 
     assert_eq!(rt; load_told(sale.load(rt.alloc(), &long)), Some((1, 0)));
     assert_eq!(rt; sale.lots(), 2);
     assert_eq!(rt; sale.package_space(), 256);
-    assert!(rt; sale.packages() == [run(1, 2), run(1, 1), run(2, 2)]);
-    assert!(rt; sale.bids() == [Bid::new(1, 10, 1), Bid::new(2, 6, 2), Bid::new(3, 5, 3)]);
+    assert!(rt; sale.packages() == [run(1, 2), run(1, 1), run(2, 2)].as_slice());
+    assert!(rt;
+        sale.bids() == [Bid::new(1, 10, 1), Bid::new(2, 6, 2), Bid::new(3, 5, 3)].as_slice()
+    );
     // and it goes on as any other
     assert_eq!(rt; permit_told(sale.permit(run(2, 2))), (25, 3));
     assert_eq!(rt; permit_told(sale.permit(run(3, 3))), (11, 0));

@@ -65,7 +65,7 @@ fn calls_on_a_sale_of_runs(rt: HostRuntime) -> Result<(), Fail> {
         assert_eq!(rt; withdraw_told(sale.withdraw(number)), expected);
     }
     assert_eq!(rt; sale.lots(), 6);
-    assert!(rt; sale.packages() == [run(2, 5), run(2, 3), run(6, 6), run(4, 5)]);
+    assert!(rt; sale.packages() == [run(2, 5), run(2, 3), run(6, 6), run(4, 5)].as_slice());
     assert!(rt;
         sale.bids()
             == [
@@ -75,6 +75,7 @@ fn calls_on_a_sale_of_runs(rt: HostRuntime) -> Result<(), Fail> {
                 Bid::new(999, 1_000_000_000, 3),
                 Bid::new(7, 9, 1).marked_withdrawn(),
             ]
+            .as_slice()
     );
     assert!(rt; sale.bid(4) == Some(Bid::new(999, 1_000_000_000, 3)));
     assert!(rt; sale.bid(0).is_none() && sale.bid(6).is_none());

@@ -1,4 +1,6 @@
 // What a report says of a sale, and its text.
+#![tactic(auto)]
+
 pub mod contents;
 mod gather;
 pub mod report;

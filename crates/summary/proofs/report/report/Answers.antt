@@ -1,6 +1,7 @@
 use Rattle.std.proofs.Common.{◌≡◌, ℕ, IfSome, Some, None, Option, subst, MatchOption}
 use Rattle.std.specs.Option.{option_map}
 use Rattle.std.proofs.lemmas.Result.{IfOk-weaker}
+use Rattle.packages.specs.declared.package.Package.{Ghosts}
 use Rattle.packages.specs.declared.run.Run.{Run}
 use Rattle.packages.specs.Lots.{highest_run_lot}
 use Rattle.books.specs.Book.{Book, load, Answer, refused}
@@ -13,7 +14,7 @@ use Rattle.summary.specs.FileText.{new_sale, file_book, file_answer, Reported}
 use Rattle.summary.proofs.report.report.Goals as goal
 
 -- the book of a new sale, whose table has 256 places
-held_new : (s : Sale Run) (places : ℕ) → places ≡ 256 → Holds run_set s (book_of (making highest_run_lot 0 places)) → Holds run_set s (book_of new_sale)
+held_new : {kind : Ghosts Run} (s : Sale Run kind) (places : ℕ) → places ≡ 256 → Holds run_set s (book_of (making highest_run_lot 0 places)) → Holds run_set s (book_of new_sale)
 held_new s places e = subst (λ (n : ℕ). Holds run_set s (book_of (making highest_run_lot 0 n))) e
 
 -- the report of a refusal that is the answer to the load

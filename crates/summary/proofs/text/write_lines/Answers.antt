@@ -9,7 +9,7 @@ loop-value-init g c line shows plain = put_none g.W.Write.write_str_gives _ plai
 pub loop-value-preserved : goal.loop-value-preserved
 loop-value-preserved g c line shows plain =
     line_more g.W.Write.write_str_gives g.D.Display.output line shows c.args.values.now c.loop-value.value-index _
-    c.loop-value-test.true c.value-item.is _ _ _ (Ok tt) refl (c.loop-value.invariant line shows plain) c.in_ok-writeln.ensures.shows
+    c.loop-value-test.true c.value-item.is _ _ _ (Ok tt) refl (c.loop-value.invariant line shows plain) c.in_ok-writeln.ensures.writes
 
 pub returns : goal.returns
 returns g c line shows plain ok = let all = take_all _ _ c.loop-value-test.false in rw all at (c.loop-value.invariant line shows plain)
