@@ -14,17 +14,17 @@
 -- The lemmas between them show that the k greatest are such a list.
 use Rattle.std.specs.Prelude.{◌≡◌, ℕ, zero, suc, ◌+◌, ◌≤◌, min, max, cond, List, [], ◌∷◌, ◌++◌, map, length, take, nat_le}
 use Rattle.std.proofs.Common.{arith, length-take}
-use Rattle.std.specs.List.{AllByRecursion as All}
+use Rattle.std.specs.List.{AllByRecursion}
 use Rattle.scales.specs.Semiring.{Semiring}
 
 abbrev pub Falling : List ℕ → Type 0
 Falling [] = Unit {0}
-Falling (x ∷ xs) = All (λ y. y ≤ x) xs × Falling xs
+Falling (x ∷ xs) = AllByRecursion (λ y. y ≤ x) xs × Falling xs
 
 pub record Best (k limit : ℕ) : Type 0 where
   pub amounts : List ℕ
   pub few : length amounts ≤ k
-  pub within : All (λ x. x ≤ limit) amounts
+  pub within : AllByRecursion (λ x. x ≤ limit) amounts
   pub falling : Falling amounts
 
 unfoldable pub insert : ℕ → List ℕ → List ℕ
@@ -35,7 +35,7 @@ unfoldable pub sorted : List ℕ → List ℕ
 sorted [] = []
 sorted (x ∷ xs) = insert x (sorted xs)
 
-insert_within : (m x : ℕ) (ys : List ℕ) → x ≤ m → All (λ y. y ≤ m) ys → All (λ y. y ≤ m) (insert x ys)
+insert_within : (m x : ℕ) (ys : List ℕ) → x ≤ m → AllByRecursion (λ y. y ≤ m) ys → AllByRecursion (λ y. y ≤ m) (insert x ys)
 unfolding insert
 insert_within m x [] h a = (h, tt)
 insert_within m x (y ∷ ys) h a = (omega arith, insert_within m (min x y) ys (omega arith) a.1)
@@ -46,7 +46,7 @@ insert_falling x [] f = (tt, tt)
 insert_falling x (y ∷ ys) f =
     (insert_within (max x y) (min x y) ys (omega arith) (below_more (omega arith) ys f.0), insert_falling (min x y) ys f.1)
   where
-    below_more : {m n : ℕ} → m ≤ n → (zs : List ℕ) → All (λ z. z ≤ m) zs → All (λ z. z ≤ n) zs
+    below_more : {m n : ℕ} → m ≤ n → (zs : List ℕ) → AllByRecursion (λ z. z ≤ m) zs → AllByRecursion (λ z. z ≤ n) zs
     below_more h [] a = tt
     below_more h (z ∷ zs) a = (omega arith, below_more h zs a.1)
 
@@ -55,7 +55,7 @@ unfolding sorted
 sorted_falling [] = tt
 sorted_falling (x ∷ xs) = insert_falling x (sorted xs) (sorted_falling xs)
 
-pub take_within : (m k : ℕ) (xs : List ℕ) → All (λ y. y ≤ m) xs → All (λ y. y ≤ m) (take k xs)
+pub take_within : (m k : ℕ) (xs : List ℕ) → AllByRecursion (λ y. y ≤ m) xs → AllByRecursion (λ y. y ≤ m) (take k xs)
 take_within m zero xs a = tt
 take_within m (suc k) [] a = tt
 take_within m (suc k) (x ∷ xs) a = (a.0, take_within m k xs a.1)
@@ -65,7 +65,7 @@ take_falling zero xs f = tt
 take_falling (suc k) [] f = tt
 take_falling (suc k) (x ∷ xs) f = (take_within x k xs f.0, take_falling k xs f.1)
 
-pub cut_within : (limit : ℕ) (xs : List ℕ) → All (λ y. y ≤ limit) (sorted (map (min limit) xs))
+pub cut_within : (limit : ℕ) (xs : List ℕ) → AllByRecursion (λ y. y ≤ limit) (sorted (map (min limit) xs))
 unfolding sorted
 cut_within limit [] = tt
 cut_within limit (x ∷ xs) = insert_within limit (min limit x) (sorted (map (min limit) xs)) (omega arith) (cut_within limit xs)

@@ -7,7 +7,7 @@ use Rattle.std.proofs.Common.{append_assoc, ap, ap₂, ◌∙◌, ⊎_elim, add_
 use Rattle.std.proofs.Math.Path.{sym}
 use mathlib.Core.HLevel.{is_prop→PathP, ×_prop, Unit-prop}
 use Rattle.std.proofs.Math.Bridge.{le_prop}
-use Rattle.std.specs.List.{AllByRecursion as All}
+use Rattle.std.specs.List.{AllByRecursion}
 use Rattle.std.proofs.lemmas.Bool.{cases_lt, le-leb, lt-leb, cond-true, cond-false}
 use Rattle.scales.specs.Best.{Falling, Best, insert, sorted, best, pair_sums, bests, sorted_falling, total, reaches, KeepsGreatest, OnlyGreatest}
 use Rattle.scales.specs.Semiring.{Laws}
@@ -48,7 +48,7 @@ total_front_le g zero xs = omega arith
 total_front_le g (suc k) [] = omega arith
 total_front_le g (suc k) (x ∷ xs) = omega (arith, total_front_le g k xs)
 
-total_none : (g : ℕ → ℕ) → Rising g → (y : ℕ) (xs : List ℕ) → g y ≤ 0 → All (λ x. x ≤ y) xs → total g xs ≤ 0
+total_none : (g : ℕ → ℕ) → Rising g → (y : ℕ) (xs : List ℕ) → g y ≤ 0 → AllByRecursion (λ x. x ≤ y) xs → total g xs ≤ 0
 total_none g r y [] h a = omega arith
 total_none g r y (x ∷ xs) h a = omega (arith, r x y a.0, total_none g r y xs h a.1)
 
@@ -91,7 +91,7 @@ count_le : (t : ℕ) (xs : List ℕ) → total (reaches t) xs ≤ length xs
 count_le t [] = omega arith
 count_le t (x ∷ xs) = omega (arith, reaches_le t x, count_le t xs)
 
-count_none : (t y : ℕ) (xs : List ℕ) → y < t → All (λ x. x ≤ y) xs → total (reaches t) xs ≡ 0
+count_none : (t y : ℕ) (xs : List ℕ) → y < t → AllByRecursion (λ x. x ≤ y) xs → total (reaches t) xs ≡ 0
 count_none t y [] h a = refl
 count_none t y (x ∷ xs) h a =
     let j : x < t = omega arith in
@@ -100,7 +100,7 @@ count_none t y (x ∷ xs) h a =
 SameCounts : List ℕ → List ℕ → Type 0
 SameCounts xs ys = (t : ℕ) → total (reaches t) xs ≡ total (reaches t) ys
 
-head_le : (x y : ℕ) (xs ys : List ℕ) → All (λ z. z ≤ x) xs → SameCounts (x ∷ xs) (y ∷ ys) → y ≤ x
+head_le : (x y : ℕ) (xs ys : List ℕ) → AllByRecursion (λ z. z ≤ x) xs → SameCounts (x ∷ xs) (y ∷ ys) → y ≤ x
 unfolding SameCounts
 head_le x y xs ys a e = ⊎_elim below (λ h. h) (cases_lt x y)
   where
@@ -126,7 +126,7 @@ falling_known (x ∷ xs) (y ∷ ys) f g e =
 
 -- A value is known by its amounts.
 
-within_prop : (m : ℕ) (xs : List ℕ) → IsProp (All (λ x. x ≤ m) xs)
+within_prop : (m : ℕ) (xs : List ℕ) → IsProp (AllByRecursion (λ x. x ≤ m) xs)
 within_prop m [] = Unit-prop
 within_prop m (x ∷ xs) = ×_prop le_prop (within_prop m xs)
 
@@ -139,7 +139,7 @@ module _ {k limit : ℕ} where
   best_path a b p = λ i. record {
     amounts = p i;
     few = is_prop→PathP (λ j. length (p j) ≤ k) (λ j. le_prop) a.few b.few i;
-    within = is_prop→PathP (λ j. All (λ x. x ≤ limit) (p j)) (λ j. within_prop limit (p j)) a.within b.within i;
+    within = is_prop→PathP (λ j. AllByRecursion (λ x. x ≤ limit) (p j)) (λ j. within_prop limit (p j)) a.within b.within i;
     falling = is_prop→PathP (λ j. Falling (p j)) (λ j. falling_prop (p j)) a.falling b.falling i;
   }
 
@@ -176,7 +176,7 @@ measure_total limit f γ ys = record {
   cuts = λ x. total_same (λ y. f y (min limit x)) (λ y. f y x) (λ y. (γ y).cuts x) ys;
 }
 
-count_within : (limit t : ℕ) (xs : List ℕ) → All (λ x. x ≤ limit) xs → total (λ x. reaches t (min limit x)) xs ≡ total (reaches t) xs
+count_within : (limit t : ℕ) (xs : List ℕ) → AllByRecursion (λ x. x ≤ limit) xs → total (λ x. reaches t (min limit x)) xs ≡ total (reaches t) xs
 count_within limit t [] a = refl
 count_within limit t (x ∷ xs) a =
     let e : min limit x ≡ x = omega arith in
