@@ -4,7 +4,7 @@
 usage: python3 tools/respell.py [FOLDER]      rewrites the files below FOLDER/crates in place (FOLDER: this repository)
 
 Definitions and lemmas get snake case (clash-free-by to clash_free_by), facts and records that begin with a capital get camel case
-(Truth-pays to TruthPays). Names of the libraries and the names that rt makes for goals keep their spelling.
+(Charges-whole to ChargesWhole). Names of the libraries and the names that rt makes for goals keep their spelling.
 """
 
 import os
@@ -40,7 +40,7 @@ APART = {"One-award": "AlwaysOneAward", "Truth-pays": "TruthAlwaysPays"}
 # Names that were in camel case though they are no types.
 CAMEL = {
     "getD_mapped": "get_or_mapped", "getD_from": "get_or_from", "inQ": "in_q", "headerLine": "header_line", "lotLine": "lot_line", "bidLine": "bid_line",
-    "lotCount": "counted", "makingOf": "making_of", "permitCall": "permit_call", "lodgeCall": "lodge_call", "withdrawCall": "withdraw_call", "loadCall": "load_call",
+    "lotCount": "lots_so_far", "makingOf": "making_of", "permitCall": "permit_call", "lodgeCall": "lodge_call", "withdrawCall": "withdraw_call", "loadCall": "load_call",
     "acceptedWith": "accepted_with", "refusedBy": "refused_by", "refusalOf": "refusal_of",
 }
 

@@ -1,5 +1,7 @@
 // Tests of totals, appraisals, awards and charges: tables of small sales and many made ones against a brute force over
 // all sets of bids, the worked sales of the rules, the refusals, the largest sales, and comparisons of two sales.
+#![tactic(auto)]
+
 #[cfg(test)]
 mod agreement;
 #[cfg(test)]

@@ -11,9 +11,9 @@ bool_same true b f g = sym (f refl)
 bool_same false true f g = g refl
 bool_same false false f g = refl
 
-pub not-true : (b : Bool) → (b ≡ true → ⊥) → b ≡ false
-not-true true f = absurd (f refl)
-not-true false f = refl
+pub not_true : (b : Bool) → (b ≡ true → ⊥) → b ≡ false
+not_true true f = absurd (f refl)
+not_true false f = refl
 
 pub and_same : (u v a b : Bool) → u ≡ v → (u ≡ true → a ≡ b) → (u && a) ≡ (v && b)
 and_same true true a b e f = f refl

@@ -7,7 +7,7 @@ use Rattle.scales.specs.Semiring.{Semiring, Laws}
 use Rattle.contest.specs.Contest.{Contest}
 use Rattle.contest.specs.Total.{from, keep, sum_by, product_by, total_by}
 use Rattle.contest.specs.Nest.{Falling, inside, related, Nested, children, own, part, Splits}
-use Rattle.contest.proofs.Algebra.{add_nought_right, not-true, bool_same, and_same, keep_outside, product_same}
+use Rattle.contest.proofs.Algebra.{add_nought_right, not_true, bool_same, and_same, keep_outside, product_same}
 use Rattle.contest.proofs.Weigh.{weigh, weigh_is, weigh_same, weigh_test, weigh_none, weigh_apart, weigh_over, either}
 use Rattle.contest.proofs.Nesting.{inside_root, inside_self, inside_parent, inside_le, inside_trans, siblings, inside_child, under, Listed, under_child, child_under}
 
@@ -36,8 +36,8 @@ module _ {M : Type 0} {r : Semiring M} (laws : Laws r) (parent : ℕ → ℕ) (f
   apart_siblings : (c d g h k : ℕ) → 0 < c → 0 < d → c ≢ d → parent c ≡ g → parent d ≡ g → inside parent c h ≡ true → inside parent d k ≡ true → related parent h k ≡ false
   apart_siblings c d g h k pc pd ne ec ed e f =
       or_from _ _
-      (not-true _ (λ a. siblings parent falls c d k pc pd ne (ec ∙ sym ed) (inside_trans parent falls c h k e a) f))
-      (not-true _ (λ a. siblings parent falls c d h pc pd ne (ec ∙ sym ed) e (inside_trans parent falls d k h f a)))
+      (not_true _ (λ a. siblings parent falls c d k pc pd ne (ec ∙ sym ed) (inside_trans parent falls c h k e a) f))
+      (not_true _ (λ a. siblings parent falls c d h pc pd ne (ec ∙ sym ed) e (inside_trans parent falls d k h f a)))
 
   -- What lies inside the listed children of g weighs the product over them.
   weigh_children : (g first m : ℕ) → 0 < first → weight (beneath g first m) ≡ product_by r (λ c. weight (within c)) (keep (λ c. eqb (parent c) g) (from first m))
@@ -120,7 +120,7 @@ module _ {M : Type 0} {r : Semiring M} (laws : Laws r) (c : Contest) (parent on 
       total_part
       ∙ part_is 0
       ∙ ap (λ l. r.add (product_by r (part r c on w parent) (children parent count 0)) (sum_by r w l))
-      (keep_outside _ 1 c.count (λ x h k. not-true _ (λ e. let t = and_parts (c.stands x) (eqb (on x) 0) e in omega (arith, (nested.placed x (h, omega arith)).0, eqb-true _ _ t.1))))
+      (keep_outside _ 1 c.count (λ x h k. not_true _ (λ e. let t = and_parts (c.stands x) (eqb (on x) 0) e in omega (arith, (nested.placed x (h, omega arith)).0, eqb-true _ _ t.1))))
       ∙ add_nought_right laws _
 
   only_by : (T : ℕ → M) → ((g : ℕ) → 1 ≤ g → g ≤ count → T g ≡ r.add (product_by r T (children parent count g)) (own r c on w g)) → (k g : ℕ) → count ≤ g + k → 1 ≤ g → g ≤ count → T g ≡ part r c on w parent g

@@ -4,7 +4,8 @@
 --   Lacks, IsBestWithout           sets without any bid of a buyer, and the greatest revenue of these
 --   ChargeWhole, ChargesWhole      a charge is never cut off at 0
 --   SameOthers, NoNewBids          two contests that differ only in one buyer's prices, and in withdrawals of his
---   award_at, Truthful, TruthAlwaysPays with his true prices he gains at least as much, and as much exactly if both awards sum alike
+--   award_at, Truthful, TruthAlwaysPays
+--                                  with his true prices he gains at least as much, and as much exactly if both awards sum alike
 --   DescentAwards                  the way down the nest finds the award
 --   TotalChooses, ChoicesTotal     a total of choices has the best revenue, and the lowest number in any best set
 --   RevenueTotal, WithoutTotal     a total of prices is the best revenue, also without the bids of one buyer

@@ -1,4 +1,6 @@
 // Tests of the line reader and of reading whole files: tables of files with answers worked by hand.
+#![tactic(auto)]
+
 #[cfg(test)]
 mod accepted;
 #[cfg(test)]

@@ -9,7 +9,7 @@
 --   run_lots, mask_lots               the lots that a run and a mask mean
 --   digit                             a binary digit of a number
 -- specs/Sets says in words what has, within, apart and fits_in decide.
-use Rattle.std.specs.Prelude.{ℕ, zero, suc, ◌+◌, ◌-◌, ◌/◌, ◌%◌, ◌^◌, min, Bool, cond, not, ◌&&◌, ◌||◌, leb, ◌==◌, nat_le}
+use Rattle.std.specs.Prelude.{ℕ, zero, suc, ◌+◌, ◌-◌, ◌/◌, ◌%◌, ◌^◌, min, Bool, cond, not, ◌&&◌, ◌||◌, ◌==◌, nat_le}
 
 -- A finite set of lots: the numbers up to top that pass the test.
 pub record Lots : Type 0 where
@@ -55,7 +55,7 @@ highest_mask_lot = 64
 
 -- The lots from first to last. The two are any numbers here, and those of a run have 16 bits: the bound changes no run, and makes the highest lot a law for all numbers.
 abbrev pub run_lots : ℕ → ℕ → Lots
-run_lots first last = record { top = min last highest_run_lot; test = leb first }
+run_lots first last = record { top = min last highest_run_lot; test = nat_le first }
 
 -- the binary digit of value 2 ^ i
 abbrev pub digit : ℕ → ℕ → ℕ

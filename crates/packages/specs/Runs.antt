@@ -1,5 +1,5 @@
 -- What a run's answers are, from its two numbers.
-use Rattle.std.specs.Prelude.{◌≡◌, ℕ, zero, suc, ◌+◌, ◌-◌, ◌<◌, ◌≤◌, min, max, Bool, true, cond, ◌&&◌, ltb, leb, ◌⊎◌, nat_le, nat_lt}
+use Rattle.std.specs.Prelude.{◌≡◌, ℕ, zero, suc, ◌+◌, ◌-◌, ◌<◌, ◌≤◌, min, max, Bool, true, cond, ◌&&◌, ◌⊎◌, nat_le, nat_lt}
 use Rattle.std.proofs.Common.{sym, ap₂, ◌∙◌, inl, inr, arith}
 use Rattle.std.proofs.lemmas.Bool.{leb-true, le-leb, ltb-true, lt-ltb, cases_lt, lt-leb}
 use Rattle.packages.specs.Lots.{highest_run_lot, run_lots, has, count, within, apart, fits_in, size_of}
@@ -30,7 +30,7 @@ module _ (a b c d : ℕ) where
   pub run_apart : b ≤ highest_run_lot → nat_lt (min b d) (max a c) ≡ apart (run_lots a b) (run_lots c d)
   run_apart short = same_tests (nat_lt (min b d) (max a c)) (apart (run_lots a b) (run_lots c d)) there back
     where
-      there : ltb (min b d) (max a c) ≡ true → apart (run_lots a b) (run_lots c d) ≡ true
+      there : nat_lt (min b d) (max a c) ≡ true → apart (run_lots a b) (run_lots c d) ≡ true
       there e =
           let lt = ltb-true (min b d) (max a c) e in
           apart_from (run_lots a b) (run_lots c d) (λ k h h'. let r = run_has a b k h in let r' = run_has c d k h' in omega arith)
@@ -67,7 +67,7 @@ counted a t zero h =
     ]
 counted a t (suc n) h =
     let rest = counted a t n (omega arith) in
-    let f : ℕ → Bool = λ k. nat_le k t && leb a k in
+    let f : ℕ → Bool = λ k. nat_le k t && nat_le a k in
     elim (cases_lt (suc n) a) [
       | inl lt ↦ ap₂ (λ x y. cond (x && y) 1 0 + count f n) (le-leb (suc n) t h) (lt-leb a (suc n) lt) ∙ omega arith
       | inr le ↦ ap₂ (λ x y. cond (x && y) 1 0 + count f n) (le-leb (suc n) t h) (le-leb a (suc n) le) ∙ omega arith

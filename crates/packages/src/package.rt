@@ -17,9 +17,8 @@ pub trait Package: Copy {
     // The number that `HIGHEST` stands for, which no lot of a package is above.
     ghost highest: { ℕ };
 
-    // Answers `HIGHEST`. A clause cannot name a constant of a type parameter, so the constant alone
-    // would tell code over all kinds nothing: such code asks this function, whose contract gives
-    // the number of the law. Each kind answers with its constant, so the contract pins that too.
+    // Answers `HIGHEST`. Code over all kinds asks this function, whose contract gives the number
+    // `highest`; each kind answers with its constant, and `highest_lots` pins the constants.
     fn highest_lot() -> u32
         ensures { result ≡ highest };
 

@@ -1,8 +1,10 @@
 // Reads a sale file from standard input and prints the report of the sale, or why the file is refused.
-use anyhow::anyhow;
+#![tactic(auto)]
+
 use salefile::limits::MAX_BYTES;
 use std::alloc::Global;
 use std::io::Read;
+use std::process::ExitCode;
 use summary::report::report;
 
 // The bytes of the input. Of a longer one no more is read than shows that it is too long.
@@ -21,12 +23,12 @@ fn run(rt: &HostRuntime) -> anyhow::Result<bool> {
 }
 
 // After a refusal the program ends with status 1, so that a script can tell.
-fn main(rt: HostRuntime) -> anyhow::Result<()> {
-    if run(&rt)? {
-        Ok(())
+fn main(rt: HostRuntime) -> anyhow::Result<ExitCode> {
+    Ok(if run(&rt)? {
+        ExitCode::SUCCESS
     } else {
-        Err(anyhow!("the file is refused"))
-    }
+        ExitCode::FAILURE
+    })
 }
 
 #[cfg(test)]

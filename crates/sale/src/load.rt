@@ -21,7 +21,10 @@ use std::alloc::Global;
 impl Sale<Run> {
     // Takes up what a file says. Its packages and bids are never refused.
     fn take_up(&mut self, contents: &Contents)
-        requires { (vec_len self.old.nest.parents ≡ 0) × ((vec_len self.old.nest.bids ≡ 0) × ((Orderly (min max_packages (vec_len self.old.table)) (contents_of contents.now)) × (Standing contents.now.bids.items))) }
+        requires no_packages { vec_len self.old.nest.parents ≡ 0 }
+        requires no_bids { vec_len self.old.nest.bids ≡ 0 }
+        requires orderly { Orderly (min max_packages (vec_len self.old.table)) (contents_of contents.now) }
+        requires standing { Standing contents.now.bids.items }
         ensures holds { Holds run_set self.new (file_book (contents_of contents.now) (min max_packages (vec_len self.old.table))) }
         ensures table { self.new.table.items ≡ contents.now.packages.items ++ drop (vec_len contents.now.packages) self.old.table.items }
     {

@@ -1,4 +1,6 @@
 // Tests of sales: tables of calls with answers worked by hand.
+#![tactic(auto)]
+
 #[cfg(test)]
 mod answers;
 #[cfg(test)]

@@ -5,8 +5,7 @@
 --   Step           one line more is taken up or refused
 --   Finishes       the end is taken up or refused
 --   Reached, Loading, Ending   how far the reader has come
-use Rattle.std.specs.Prelude.{◌≡◌, ℕ, ◌+◌, ◌≤◌, List, [], ◌∷◌, ◌++◌, reverse, length, drop, vec_items, Result}
-use Rattle.std.specs.Result as results
+use Rattle.std.specs.Prelude.{◌≡◌, ℕ, ◌+◌, ◌≤◌, List, [], ◌∷◌, ◌++◌, reverse, length, drop, vec_items, Result, MatchResult, ◌≢◌}
 use Rattle.packages.specs.declared.run.Run.{Run}
 use Rattle.bids.specs.Limits.{max_packages}
 use Rattle.salefile.specs.Limits.{max_bytes}
@@ -33,10 +32,10 @@ Nest [] ks = Balanced ks
 Nest (o ∷ os) ks = (b : List Kind) × (i : List Kind) × Innermost ks b i × Opens o b × Nest os b
 
 -- what is kept of the lines ks, the first of which is the header and none of which is the end
-pub record Kept (ks : List Kind) (counted : ℕ) (runs : List Run) (stack : List Opened) (all : List Bid) : Type 0 where
-  pub begun : ks ≡ [] → ⊥
+pub record Kept (ks : List Kind) (lots_so_far : ℕ) (runs : List Run) (stack : List Opened) (all : List Bid) : Type 0 where
+  pub begun : ks ≢ []
   pub going : Ended ks → ⊥
-  pub lot_count : counted ≡ lots ks
+  pub lot_count : lots_so_far ≡ lots ks
   pub packaged : Packaged ks runs
   pub nest : Nest (reverse stack) ks
   pub lodged : Lodged ks all
@@ -55,12 +54,12 @@ RefusedBy space ks x f = Rejects space ks x (refusal f).0 (refusal f).1
 -- the line k, of the number n, after the lines ks: it is taken up, or refused
 abbrev pub Step : ℕ → ℕ → Kind → Draft → {T : Type 0} → Result T Fault → Draft → Type 0
 Step space n k d r d' =
-    (ks : List Kind) → Keeps ks d → n ≡ length ks + 1 → results.MatchResult r (λ _. Clear (Fails space ks (line k)) order × Keeps (ks ++ (k ∷ [])) d') (RefusedBy space ks (line k))
+    (ks : List Kind) → Keeps ks d → n ≡ length ks + 1 → MatchResult r (λ _. Clear (Fails space ks (line k)) order × Keeps (ks ++ (k ∷ [])) d') (RefusedBy space ks (line k))
 
 -- the end after the lines ks: the contents are complete, or a package is open
 abbrev pub Finishes : Draft → Result Contents Fault → Type 0
 Finishes d r =
-    (ks : List Kind) → Keeps ks d → results.MatchResult r (λ c. NoneOpen ks × Describes (ks ++ (ending ∷ [])) (contents_of c)) (λ f. (space : ℕ) → RefusedBy space ks (line ending) f)
+    (ks : List Kind) → Keeps ks d → MatchResult r (λ c. NoneOpen ks × Describes (ks ++ (ending ∷ [])) (contents_of c)) (λ f. (space : ℕ) → RefusedBy space ks (line ending) f)
 
 -- the reader has read the lines ks of the file
 pub record Reached (file : List ℕ) (ks : List Kind) (s : LineReader) : Type 0 where

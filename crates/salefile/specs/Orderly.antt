@@ -5,7 +5,7 @@
 --   AllOrderly   so is every accepted file
 --   InNest       the same of the packages as sets of lots: they are a nest, and the bids are on them
 --   AllNested    so is every accepted file
-use Rattle.std.specs.Prelude.{ℕ, ◌<◌, ◌≤◌, ◌⊎◌, List, length, get_or, ◌≢◌, slice_index_or}
+use Rattle.std.specs.Prelude.{ℕ, ◌<◌, ◌≤◌, ◌⊎◌, List, length, ◌≢◌, slice_index_or}
 use Rattle.packages.specs.declared.run.Run.{Run}
 use Rattle.bids.specs.Limits.{max_bids}
 use Rattle.salefile.specs.Limits.{max_bytes}
@@ -30,8 +30,8 @@ pub record Orderly (space : ℕ) (c : FileContents) : Type 0 where
   pub fits : (k : ℕ) (d : Run) → k < length c.packages → Fits c.lots (slice_index_or c.packages k d)
   pub nests : (j k : ℕ) (d : Run) → j < k → k < length c.packages → Nests (slice_index_or c.packages j d) (slice_index_or c.packages k d)
   pub few_bids : length c.bids ≤ max_bids
-  pub in_range : (k : ℕ) (d : Bid) → k < length c.bids → InRange (get_or c.bids k d).buyer (get_or c.bids k d).price
-  pub on_package : (k : ℕ) (d : Bid) → k < length c.bids → (1 ≤ (get_or c.bids k d).«package») × ((get_or c.bids k d).«package» ≤ length c.packages)
+  pub in_range : (k : ℕ) (d : Bid) → k < length c.bids → InRange (slice_index_or c.bids k d).buyer (slice_index_or c.bids k d).price
+  pub on_package : (k : ℕ) (d : Bid) → k < length c.bids → (1 ≤ (slice_index_or c.bids k d).«package») × ((slice_index_or c.bids k d).«package» ≤ length c.packages)
 
 abbrev pub AllOrderly : Type 0
 AllOrderly = (file : List ℕ) (space : ℕ) (c : FileContents) → Accepted file space c → Orderly space c

@@ -65,7 +65,8 @@ impl Draft {
     }
 
     pub(crate) fn open(&mut self, line: usize, space: usize) -> Result<(), Fault>
-        requires { (self.old.lots < 65535) × (space ≤ max_packages) }
+        requires few_lots { self.old.lots < 65535 }
+        requires space_few { space ≤ max_packages }
         ensures { Step space line opening self.old result self.new }
     {
         let package = self.packages.len();
@@ -105,7 +106,9 @@ impl Draft {
     }
 
     pub(crate) fn bid(&mut self, line: usize, buyer: &[u8], price: &[u8]) -> Result<(), Fault>
-        requires { (SomeDraft self.old) × ((Numeral buyer.now) × (Numeral price.now)) }
+        requires kept { SomeDraft self.old }
+        requires buyer { Numeral buyer.now }
+        requires price { Numeral price.now }
         ensures { (space : ℕ) → Step space line (bid_line buyer.now price.now) self.old result self.new }
     {
         let Some(top) = self.unclosed.last() else {
@@ -127,7 +130,10 @@ impl Draft {
 
     // One line of the body, which is any line but the end.
     pub(crate) fn add(&mut self, number: usize, line: Line, space: usize) -> Result<(), Fault>
-        requires { (SomeDraft self.old) × ((self.old.lots < 65535) × ((space ≤ max_packages) × (Proper (kind_of line)))) }
+        requires kept { SomeDraft self.old }
+        requires few_lots { self.old.lots < 65535 }
+        requires space_few { space ≤ max_packages }
+        requires proper { Proper (kind_of line) }
         ensures { (kind_of line.entry ≢ ending) → Step space number (kind_of line.entry) self.old result self.new }
     {
         match line {

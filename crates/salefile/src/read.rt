@@ -65,7 +65,8 @@ fn over(lines: &mut LineReader) -> Result<(), Fault>
 
 // What the file says, in a sale with space for so many packages, all read into the draft.
 fn fill(mut draft: Draft, file: &[u8], space: usize) -> Result<Contents, Fault>
-    requires { (Keeps (header_line ∷ []) draft) × (space ≤ max_packages) }
+    requires kept { Keeps (header_line ∷ []) draft }
+    requires space_few { space ≤ max_packages }
     ensures { Outcome file.now space result }
 {
     if file.len() > MAX_BYTES {

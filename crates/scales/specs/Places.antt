@@ -1,7 +1,7 @@
 -- Amounts in places, some of which may be empty.
 --   in_front  the amount that is there, if any, in front of a list
 --   somes     the amounts that are there
---   _≼_       at most as great, none being below every amount
+--   ◌≼◌       at most as great, none being below every amount
 use Rattle.std.specs.Prelude.{ℕ, ◌≤◌, List, [], ◌∷◌, Some, None, Option}
 
 abbrev pub in_front : Option ℕ → List ℕ → List ℕ

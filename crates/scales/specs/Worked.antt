@@ -1,7 +1,8 @@
 -- Worked values of the scales, by computation.
 --   revenue, count  an amount of Revenue, a number of Count
 --   tied, ways      an amount of Tied with an inner value, one of Tied over Count
---   RevenueWorked, CountWorked, BestWorked, TiedWorked, LowestWorked       the worked values of each scale
+--   RevenueWorked, CountWorked, BestWorked, TiedWorked, LowestWorked
+--                   the worked values of each scale
 use Rattle.std.specs.Prelude.{◌≡◌, ℕ, ◌-◌, [], ◌∷◌, Some, None}
 use Rattle.scales.specs.BestThree.{best_three, best_threes}
 use Rattle.scales.specs.Count.{Counts, counts}

@@ -41,7 +41,12 @@ returns-in-End c =
 pub add-requires : goal.add-requires
 add-requires c =
     let i = c.loop-next.invariant in
-    ((i.lines, i.keeps), (few_lots c.args.lines.now.file.now c.args.space c.loop-next.lines c.loop-next.draft i, (i.space_few, (shown (goal.at.add-requires c).In-Some).proper)))
+    record {
+      kept = (i.lines, i.keeps);
+      few_lots = few_lots c.args.lines.now.file.now c.args.space c.loop-next.lines c.loop-next.draft i;
+      space_few = i.space_few;
+      proper = (shown (goal.at.add-requires c).In-Some).proper;
+    }
 
 pub loop-next-preserved : goal.loop-next-preserved
 loop-next-preserved c =

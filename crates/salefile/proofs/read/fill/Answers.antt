@@ -23,7 +23,7 @@ begun c = let a = (goal.at.In_ok-header c).After-new-lines in c.in_ok-header.ens
 pub body-requires : goal.body-requires
 body-requires c =
     let b = begun (goal.at.body-requires c).In_ok-header in
-    loading c.args.file.now c.args.space c.header.new.lines c.args.draft (small (goal.at.body-requires c).After-new-lines) c.requires.1 b.0 b.1 c.requires.0
+    loading c.args.file.now c.args.space c.header.new.lines c.args.draft (small (goal.at.body-requires c).After-new-lines) c.requires.space_few b.0 b.1 c.requires.kept
 
 pub returns-in_err-header : goal.returns-in_err-header
 returns-in_err-header c =

@@ -47,7 +47,12 @@ take_up-requires c =
     let space = min max_packages (vec_len c.args.self.now.table) in
     let contents = contents_of c.in_ok-contents.contents in
     let accepted = accepted_so (goal.at.take_up-requires c).In_ok-contents in
-    (omega arith, (omega arith, (all_orderly file space contents accepted, all_standing file space contents accepted)))
+    record {
+      no_packages = omega arith;
+      no_bids = omega arith;
+      orderly = all_orderly file space contents accepted;
+      standing = all_standing file space contents accepted;
+    }
 
 pub returns : goal.returns
 returns c =

@@ -21,9 +21,9 @@ loop-run-init c = (
   record {
     lots = c.from-self.ensures;
     space = refl;
-    packages = ap (λ n. map run_set (take n (vec_items c.args.self.now.table))) c.requires.0;
-    parents = nil_from_length (vec_items c.args.self.now.nest.parents) (sym c.args.self.now.nest.parents.ok.0 ∙ c.requires.0);
-    bids = nil_from_length (vec_items c.args.self.now.nest.bids) (sym c.args.self.now.nest.bids.ok.0 ∙ c.requires.1.0);
+    packages = ap (λ n. map run_set (take n (vec_items c.args.self.now.table))) c.requires.no_packages;
+    parents = nil_from_length (vec_items c.args.self.now.nest.parents) (sym c.args.self.now.nest.parents.ok.0 ∙ c.requires.no_packages);
+    bids = nil_from_length (vec_items c.args.self.now.nest.bids) (sym c.args.self.now.nest.bids.ok.0 ∙ c.requires.no_bids);
   },
   refl,
 )
@@ -37,7 +37,7 @@ permitted_next c =
     let value = c.as_slice-run-items.ensures.value in
     let lt : i < length (vec_items c.args.contents.now.packages) = subst (λ l. i < length l) value c.loop-run-test.true in
     let obeys = subst (λ l. Obeys run_set c.loop-run.self c.permit.new.self (permit (run_set (get_or l i no_run))) (reply permit_refusal c.permit.result)) value c.permit.ensures.rules in
-    permit_next (min max_packages (vec_len c.args.self.now.table)) (contents_of c.args.contents.now) c.requires.1.1.0 c.requires.1.1.1 (omega arith) c.loop-run.self c.permit.new.self i (reply permit_refusal c.permit.result) lt c.loop-run.invariant.0 obeys
+    permit_next (min max_packages (vec_len c.args.self.now.table)) (contents_of c.args.contents.now) c.requires.orderly c.requires.standing (omega arith) c.loop-run.self c.permit.new.self i (reply permit_refusal c.permit.result) lt c.loop-run.invariant.0 obeys
 
 pub unwrap-requires : goal.unwrap-requires
 unwrap-requires c = reply_ok permit_refusal c.permit.result (c.loop-run.run-index + 1) (permitted_next (goal.at.unwrap-requires c).After-permit).1
@@ -49,7 +49,7 @@ loop-run-preserved c =
     let i : ℕ = c.loop-run.run-index in
     let R : List Run = vec_items c.args.contents.now.packages in
     let T : List Run = vec_items c.args.self.now.table in
-    let ord : Orderly space says = c.requires.1.1.0 in
+    let ord : Orderly space says = c.requires.orderly in
     let value = c.as_slice-run-items.ensures.value in
     let lt : i < length R = subst (λ l. i < length l) value c.loop-run-test.true in
     let next = permitted_next (goal.at.loop-run-preserved c).After-permit in
@@ -85,7 +85,7 @@ lodged-next c =
     let lt : j < length says.bids = subst (λ l. j < length l) value c.loop-bid-test.true in
     let held = subst (λ m. Holds run_set c.loop-bid.self (part says m n j)) c.loop-run.invariant.0.space c.loop-bid.invariant.0 in
     let obeys = subst (λ l. Obeys run_set c.loop-bid.self c.lodge.new.self (lodge (get_or l j no_bid).buyer (get_or l j no_bid).price (get_or l j no_bid).«package») (reply lodge_refusal c.lodge.result)) value c.lodge.ensures.rules in
-    lodge_next (min max_packages (vec_len c.args.self.now.table)) says c.requires.1.1.0 c.requires.1.1.1 (omega arith) c.loop-bid.self c.lodge.new.self j (reply lodge_refusal c.lodge.result) lt held obeys
+    lodge_next (min max_packages (vec_len c.args.self.now.table)) says c.requires.orderly c.requires.standing (omega arith) c.loop-bid.self c.lodge.new.self j (reply lodge_refusal c.lodge.result) lt held obeys
 
 pub unwrap-requires-in-loop-bid : goal.unwrap-requires-in-loop-bid
 unwrap-requires-in-loop-bid c = reply_ok lodge_refusal c.lodge.result (c.loop-bid.bid-index + 1) (lodged-next (goal.at.unwrap-requires-in-loop-bid c).After-lodge).1
@@ -104,7 +104,7 @@ returns c =
     let space : ℕ = min max_packages (vec_len c.args.self.now.table) in
     let R : List Run = vec_items c.args.contents.now.packages in
     let T : List Run = vec_items c.args.self.now.table in
-    let ord : Orderly space says = c.requires.1.1.0 in
+    let ord : Orderly space says = c.requires.orderly in
     let same = c.loop-run.invariant.0.space in
     let size = ap length c.as_slice-bid-items.ensures.value in
     let size_runs = ap length c.as_slice-run-items.ensures.value in
@@ -112,7 +112,7 @@ returns c =
     let end_runs : c.loop-run.run-index ≡ length R = omega (arith, c.loop-run-test.false, c.loop-run.auto.run-index-end) in
     let held = subst (λ j. Holds run_set c.loop-bid.self (part says space (length R) j)) end (subst (λ m. Holds run_set c.loop-bid.self (part says m (length R) c.loop-bid.bid-index)) same c.loop-bid.invariant.0) in
     record {
-      holds = subst (Holds run_set c.loop-bid.self) (part_all space says ord c.requires.1.1.1 (omega arith)) held;
+      holds = subst (Holds run_set c.loop-bid.self) (part_all space says ord c.requires.standing (omega arith)) held;
       table =
           c.loop-bid.invariant.1
           ∙ c.loop-run.invariant.1

@@ -18,7 +18,7 @@ last c =
     subst (λ l. l ≡ take (length l - 1) l ++ (c.in-Some.top.now ∷ [])) s (last_split _ _ i.3.0 i.1)
 
 pub overflow_add-package : goal.overflow_add-package
-overflow_add-package c = let w = top_within c.requires.0.0 _ _ _ _ c.requires.0.1 _ _ (last c) in search rules
+overflow_add-package c = let w = top_within c.requires.kept.0 _ _ _ _ c.requires.kept.1 _ _ (last c) in search rules
 
 -- the test of the numbers is one of the values that they write
 written : (c : After-in_range) → c.in_range.result ≡ (is_buyer (value c.args.buyer.now) && is_price (value c.args.price.now))
