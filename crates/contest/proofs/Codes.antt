@@ -1,6 +1,6 @@
 -- Counts are a lawful scale coded by numbers, so the coded scales tell contests apart.
 use Rattle.std.proofs.Common.{◌≡◌, ℕ, zero, suc, List, [], ◌∷◌, map, get_or, sym, refl, ap, ◌∙◌, ap₂, arith}
-use lib.ListN.{length-map}
+use Rattle.std.proofs.Math.ListN.{length-map}
 use Rattle.scales.specs.Semiring.{Semiring, Laws}
 use Rattle.scales.specs.Cut.{cut, top_count}
 use Rattle.scales.specs.Count.{counts}

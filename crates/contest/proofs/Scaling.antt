@@ -1,7 +1,7 @@
 -- The semiring of choices is one of amounts with the lowest bid number.
 use Rattle.std.proofs.Common.{◌≡◌, ℕ, zero, suc, ◌+◌, ◌<◌, ◌≤◌, min, cond, ltb, Some, None, Option, sym, refl, ap, ◌∙◌, subst, ap₂, arith}
-use native.Mathlib.Bridge.{le_prop}
-use native.Mathlib.Decide.{dec_lt}
+use Rattle.std.proofs.Math.Bridge.{le_prop}
+use Rattle.std.proofs.Math.Decide.{dec_lt}
 use Rattle.std.proofs.lemmas.Bool.Decides.{nat_tests}
 use Rattle.std.proofs.lemmas.Bool.{lt-ltb, le-ltb, cond-true, cond-false}
 use Rattle.contest.specs.Contest.{Contest, best_revenue}

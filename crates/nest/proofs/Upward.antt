@@ -1,6 +1,6 @@
 -- The contest of bids on packages with known parents is nested.
 use Rattle.std.proofs.Common.{◌≡◌, ℕ, zero, suc, ◌-◌, ◌≤◌, true, List, length, get_or, Some, None, Option, refl, ap, ⊎_elim, arith}
-use lib.ListN.{get_or-eq_default}
+use Rattle.std.proofs.Math.ListN.{get_or-eq_default}
 use Rattle.std.proofs.lemmas.Bool.{cases_lt, and_parts, leb-true}
 use Rattle.contest.specs.Nest.{Falling, Nested}
 use Rattle.bids.specs.declared.bid.Bid.{Bid}

@@ -34,5 +34,6 @@ pub trait Package: Copy {
     fn size(&self) -> u32
         ensures { result ≡ size_of (meaning self.now) };
 
+    // A law, which each kind proves: no lot of a package is above the highest.
     ghost bounded: { (p : Self) (k : ℕ) → has (meaning p) k ≡ true → k ≤ highest };
 }

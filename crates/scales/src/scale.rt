@@ -27,6 +27,7 @@ pub trait Scale: Copy {
     fn product(self, other: Self) -> Self
         ensures { meaning result ≡ ring.mul (meaning self) (meaning other) };
 
+    // A law, which each scale proves: nought, unit, sum and product are those of a commutative semiring.
     ghost laws: { Laws ring };
 }
 
@@ -38,6 +39,6 @@ pub trait PricedScale: Scale {
     fn worth(price: u64) -> Self
         ensures { Self.Scale.meaning result ≡ Self.Scale.meaning (worth price) };
 
-    // A price above the greatest amount is read as the greatest amount.
+    // A law: a price above the greatest amount is read as the greatest amount.
     ghost cuts: { (price : ℕ) → Self.Scale.meaning (worth price) ≡ Self.Scale.meaning (worth (min top_amount price)) };
 }

@@ -1,5 +1,5 @@
 use Rattle.std.proofs.Common.{refl}
-use native.Mathlib.Decide.{dec_lt}
+use Rattle.std.proofs.Math.Decide.{dec_lt}
 use Rattle.packages.specs.Lots.{has, all, count, empty, within, apart, fits_in}
 use Rattle.packages.specs.Nest.{relation_of}
 use Rattle.scales.specs.Best.{insert, sorted}

@@ -1,5 +1,5 @@
 use Rattle.std.proofs.Common.{◌≡◌, Some, refl, ap}
-use native.Mathlib.Decide.{dec_lt}
+use Rattle.std.proofs.Math.Decide.{dec_lt}
 use Rattle.scales.specs.Best.{insert, sorted}
 use Rattle.scales.specs.Count.{Counts}
 use Rattle.scales.specs.Numbers.{upto_path}

@@ -1,5 +1,5 @@
 use Rattle.std.proofs.Common.{refl}
-use native.Mathlib.Decide.{dec_lt}
+use Rattle.std.proofs.Math.Decide.{dec_lt}
 use Rattle.std.specs.Fmt.{digits}
 use Rattle.scales.specs.Best.{insert, sorted}
 use Rattle.packages.specs.Lots.{has, all, empty, within, apart, fits_in}
