@@ -3,12 +3,12 @@
 --   Shares                 two sets have a lot in common
 --   Fits                   a set is non-empty, and all its lots lie from 1 to n
 --   Stands                 one set stands to another as a relation says
---   Exact                  the answers of fits_in and relation_of are right for every finite set of lots
+--   Exact                  the answers of fits_in, within, apart and relation_of are right for every finite set of lots
 --   TrueAnswers            two answers, about a set and about its relation to another, are the true ones
-use Rattle.std.specs.Prelude.{◌≡◌, ℕ, ◌≤◌, Bool, true, false, ◌≢◌}
+use Rattle.std.specs.Prelude.{◌≡◌, ℕ, ◌≤◌, Bool, true, false, ◌≢◌, ◌↔◌}
 use Rattle.packages.specs.declared.relation.Relation.{Relation}
 use Rattle.packages.specs.declared.relation.Relation.TheVariants.{Equal, Inside, Around, Apart, Crossing}
-use Rattle.packages.specs.Lots.{Lots, has, fits_in}
+use Rattle.packages.specs.Lots.{Lots, has, within, apart, fits_in}
 use Rattle.packages.specs.Nest.{relation_of}
 
 abbrev pub Has : Lots → ℕ → Type 0
@@ -40,6 +40,8 @@ Stands s t Crossing = (Within s t → ⊥) × (Within t s → ⊥) × (Disjoint 
 pub record Exact : Type 0 where
   pub fits : (n : ℕ) (s : Lots) → fits_in n s ≡ true → Fits n s
   pub fits_not : (n : ℕ) (s : Lots) → fits_in n s ≡ false → Fits n s → ⊥
+  pub part : (s t : Lots) → (within s t ≡ true) ↔ Within s t
+  pub shareless : (s t : Lots) → (apart s t ≡ true) ↔ Disjoint s t
   pub stands : (s t : Lots) → Stands s t (relation_of s t)
   pub only : (s t : Lots) (r : Relation) → Stands s t r → r ≡ relation_of s t
 

@@ -151,6 +151,8 @@ stands_only s t r h = go r h
 
 pub exact : Exact
 exact = record {
+  part = λ s t. (within_says s t, within_from s t);
+  shareless = λ s t. (apart_says s t, apart_from s t);
   fits = fits_says;
   fits_not = λ n s e h. both_ways (fits_in n s) e (fits_from n s h);
   stands = stands_so;

@@ -4,7 +4,7 @@ use Rattle.std.proofs.Common.{sym, ap, ap₂, subst, subst₂, ◌∙◌, zero-a
 use Rattle.std.specs.Option.{option_map}
 use Rattle.scales.specs.Adjoined.{add_some, mul_both}
 use Rattle.scales.specs.Best.{Best, best, pair_sums, total}
-use Rattle.scales.specs.Places.{in_front, somes, ◌≼◌}
+use Rattle.scales.specs.Places.{in_front, somes, Packed, ◌≼◌}
 use Rattle.scales.specs.BestLaws.{Rising, ordered_pair, Measure, Same, same_refl, same_trans, same_totals, append_same, best_again, same_best}
 use Rattle.scales.specs.Totals.{total_append}
 
@@ -182,3 +182,13 @@ module _ (limit : ℕ) where
       let again : best 3 limit (cuts f s t) ≡ b = ap (best 3 limit) (sym e) ∙ best_again b in
       let means : best 3 limit (somes (f ∷ s ∷ t ∷ [])) ≡ b = sym (same_best (cuts_same (f ∷ s ∷ t ∷ []))) ∙ again in
       sym (ap (λ (d : Best 3 limit). d.amounts) means ∙ e)
+
+-- amounts in falling order, cut, leave no empty place before one that is filled
+pub packed : (limit : ℕ) (f s t : Option ℕ) → s ≼ f → t ≼ s → Packed (map (option_map (min limit)) (f ∷ s ∷ t ∷ []))
+packed limit None None None h k = refl
+packed limit None None (Some z) h k = absurd k
+packed limit None (Some y) t h k = absurd h
+packed limit (Some x) None None h k = refl
+packed limit (Some x) None (Some z) h k = absurd k
+packed limit (Some x) (Some y) None h k = refl
+packed limit (Some x) (Some y) (Some z) h k = refl

@@ -3,7 +3,7 @@ ghost use Rattle.std.specs.Prelude.{◌≡◌, [], ◌++◌, Some};
 ghost use Rattle.std.proofs.Common.{sym};
 ghost use Rattle.scales.specs.Best.{pair_sums};
 ghost use Rattle.scales.specs.BestThree.{BestThrees, best_threes, best_three, held, best_of, best_worth, no_amounts, InOrder};
-ghost use Rattle.scales.specs.Places.{in_front, somes};
+ghost use Rattle.scales.specs.Places.{in_front, somes, Packed};
 ghost use Rattle.scales.specs.Cut.{top_amount};
 ghost use Rattle.scales.specs.BestLaws.{bests_laws, same_best};
 ghost use Rattle.scales.specs.PlacesLaws.{cut_same};
@@ -37,9 +37,10 @@ impl BestThree {
         }
     }
 
-    // The amounts in falling order.
+    // The amounts in falling order, and then the empty places.
     pub fn amounts(self) -> [Option<u64>; 3]
-        ensures { somes result ≡ (best_of self).amounts }
+        ensures amounts { somes result ≡ (best_of self).amounts }
+        ensures packed { Packed result }
     {
         let ordered = BestThree::EMPTY.with_all(self);
         [cut(ordered.first), cut(ordered.second), cut(ordered.third)]

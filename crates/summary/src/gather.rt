@@ -6,7 +6,7 @@ ghost use Rattle.contest.specs.Descent.{marked};
 ghost use Rattle.contest.specs.Total.{from, keep};
 ghost use Rattle.summary.specs.Marked.{winner_in, AwardMarked};
 ghost use Rattle.summary.specs.Reports.{payments_of, ways_of, amounts_of, said, report_of};
-ghost use Rattle.scales.specs.Places.{somes};
+ghost use Rattle.scales.specs.Places.{somes, Packed};
 ghost use Rattle.books.specs.Contests.{contest_of};
 ghost use Rattle.sale.specs.Questions.{ByBook};
 
@@ -86,7 +86,8 @@ fn ways<P: Package>(sale: &Sale<P>) -> u64
 
 // The greatest amounts that clash-free sets of bids fetch.
 fn top<P: Package>(sale: &Sale<P>) -> [Option<u64>; 3]
-    ensures { ByBook P.Package.meaning sale.now (λ b. somes result ≡ amounts_of (contest_of b)) }
+    ensures amounts { ByBook P.Package.meaning sale.now (λ b. somes result ≡ amounts_of (contest_of b)) }
+    ensures packed { Packed result }
 {
     let mut work = [BestThree::nought(); MAX_PACKAGES];
     let total = sale.appraise(&mut work).unwrap_or(BestThree::nought());
@@ -97,7 +98,8 @@ impl Summary {
     // The report of a sale. Only want of memory is an error: the award and the totals have room, and a buyer with a winning bid is
     // charged.
     pub fn of<P: Package>(heap: Global, sale: &Sale<P>) -> Result<Summary, AllocError>
-        ensures { IfOk result (λ s. ByBook P.Package.meaning sale.now (λ b. said s ≡ report_of (contest_of b))) }
+        ensures report { IfOk result (λ s. ByBook P.Package.meaning sale.now (λ b. said s ≡ report_of (contest_of b))) }
+        ensures packed { IfOk result (λ s. Packed s.top) }
     {
         let bids = sale.bids();
         let mut marks = vec![in heap; 0u8; bids.len()]?;

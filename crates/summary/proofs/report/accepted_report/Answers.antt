@@ -4,4 +4,4 @@ use Rattle.summary.proofs.report.accepted_report.Goals as goal
 
 pub returns : goal.returns
 returns g c h held bids =
-    record { text = c.in_ok-text.ensures ∙ ap report_text (c.in_ok-of.ensures h held); accepted = refl }
+    record { text = c.in_ok-text.ensures ∙ ap report_text (c.in_ok-of.ensures.report h held); accepted = refl }

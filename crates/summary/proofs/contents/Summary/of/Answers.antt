@@ -6,8 +6,8 @@ use Rattle.summary.specs.Marked.{AwardMarked}
 use Rattle.summary.proofs.Reporting.{award_accepted, award_marked, report_is}
 use Rattle.summary.proofs.contents.Summary.of.Goals as goal
 
-pub returns : goal.returns
-returns g c h held =
+pub returns-clause-report : goal.returns-clause-report
+returns-clause-report g c h held =
     let bids = c.bids-bids.result.now in
     let before = c.as_mut_slice.result.now in
     let is = c.bids-bids.ensures h held in
@@ -21,4 +21,4 @@ returns g c h held =
     (award_marked (book_of h) bids before c.award.new.out c.award.result (0, 0, 0) is room (c.award.ensures h held))
     in
     report_is (contest_at h) bids marks m _ (ap (λ (x : ℕ × ℕ × ℕ). x.0) c.unwrap_or-revenue.ensures ∙ right.revenue)
-    c.in_ok-marked_bids.ensures (c.in_ok-payments.ensures h held m) (c.ways.ensures h held) (c.top.ensures h held)
+    c.in_ok-marked_bids.ensures (c.in_ok-payments.ensures h held m) (c.ways.ensures h held) (c.top.ensures.amounts h held)
