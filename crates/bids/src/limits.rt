@@ -18,12 +18,12 @@ pub const HIGHEST_PRICE: u64 = 1_000_000_000;
 pub fn is_buyer(number: u64) -> bool
     ensures { result ≡ is_buyer number }
 {
-    1 <= number && number <= HIGHEST_BUYER
+    (1..=HIGHEST_BUYER).contains(&number)
 }
 
 // Whether a bid may have this price.
 pub fn is_price(crowns: u64) -> bool
     ensures { result ≡ is_price crowns }
 {
-    1 <= crowns && crowns <= HIGHEST_PRICE
+    (1..=HIGHEST_PRICE).contains(&crowns)
 }

@@ -1,5 +1,5 @@
 // Relations, fits, sizes and highest lots of runs and masks.
-use packages::{Mask, Package, Relation, Run};
+use packages::{Mask, Package, Relation, Run, highest_lots};
 use std::process::Abort;
 
 fn flipped(relation: Relation) -> Relation {
@@ -18,16 +18,13 @@ fn check_pair<P: Package>(rt: &impl Abort, one: P, other: P, relation: Relation)
 
 // Rows: the first and last lot of two runs, and how the one stands to the other.
 fn check_runs(rt: &impl Abort, rows: &[(u16, u16, u16, u16, Relation)]) {
-    for row in rows {
-        let one = Run {
-            first: row.0,
-            last: row.1,
-        };
+    for &(first, last, other_first, other_last, relation) in rows {
+        let one = Run { first, last };
         let other = Run {
-            first: row.2,
-            last: row.3,
+            first: other_first,
+            last: other_last,
         };
-        check_pair(rt, one, other, row.4);
+        check_pair(rt, one, other, relation);
     }
 }
 
@@ -87,8 +84,8 @@ fn masks_stand_to_one_another(rt: HostRuntime) {
         (0, 1, Relation::Inside),
         (0, u64::MAX, Relation::Inside),
     ];
-    for row in rows {
-        check_pair(&rt, Mask { bits: row.0 }, Mask { bits: row.1 }, row.2);
+    for (one, other, relation) in rows {
+        check_pair(&rt, Mask { bits: one }, Mask { bits: other }, relation);
     }
 }
 
@@ -109,12 +106,8 @@ fn runs_fit_within_the_lots(rt: HostRuntime) {
         (65_535, 65_535, u32::MAX, true),
         (0, 65_535, u32::MAX, false),
     ];
-    for row in rows {
-        let run = Run {
-            first: row.0,
-            last: row.1,
-        };
-        assert_eq!(rt; run.fits(row.2), row.3);
+    for (first, last, lots, fits) in rows {
+        assert_eq!(rt; Run { first, last }.fits(lots), fits);
     }
 }
 
@@ -136,8 +129,8 @@ fn masks_fit_within_the_lots(rt: HostRuntime) {
         (0, u32::MAX, false),
         (1 << 63, u32::MAX, true),
     ];
-    for row in rows {
-        assert_eq!(rt; Mask { bits: row.0 }.fits(row.1), row.2);
+    for (bits, lots, fits) in rows {
+        assert_eq!(rt; Mask { bits }.fits(lots), fits);
     }
 }
 
@@ -152,15 +145,8 @@ fn packages_have_their_sizes(rt: HostRuntime) {
         (1, 65_535, 65_535),
         (0, 65_535, 65_536),
     ];
-    for row in runs {
-        assert_eq!(rt;
-            Run {
-                first: row.0,
-                last: row.1,
-            }
-            .size(),
-            row.2
-        );
+    for (first, last, size) in runs {
+        assert_eq!(rt; Run { first, last }.size(), size);
     }
     let masks = [
         (0, 0),
@@ -170,15 +156,14 @@ fn packages_have_their_sizes(rt: HostRuntime) {
         (u64::MAX >> 1, 63),
         (u64::MAX, 64),
     ];
-    for row in masks {
-        assert_eq!(rt; Mask { bits: row.0 }.size(), row.1);
+    for (bits, size) in masks {
+        assert_eq!(rt; Mask { bits }.size(), size);
     }
 }
 
 #[test]
 fn kinds_name_their_highest_lot(rt: HostRuntime) {
     assert_eq!(rt; Run::HIGHEST, 65_535);
-    assert_eq!(rt; Run::highest_lot(), 65_535);
     assert_eq!(rt; Mask::HIGHEST, 64);
-    assert_eq!(rt; Mask::highest_lot(), 64);
+    assert_eq!(rt; highest_lots(), (65_535, 64));
 }

@@ -1,32 +1,26 @@
 // The search for a place, after lists of runs and of masks.
 use packages::place::place;
-use packages::{Conflict, Mask, Run};
+use packages::{Conflict, Mask, Package, Run};
 use std::process::Abort;
 
-// Rows: the first and last lot of a new run, and its place after `packages`.
-fn check_runs(
-    rt: &impl Abort,
-    packages: &[Run],
-    rows: &[(u16, u16, Result<Option<usize>, Conflict>)],
-) {
-    for row in rows {
-        let new = Run {
-            first: row.0,
-            last: row.1,
-        };
-        assert_eq!(rt; place(packages, &new), row.2);
+// The place of a package after others.
+type Answer = Result<Option<usize>, Conflict>;
+
+// New packages, each with its place after `packages`.
+fn check<P: Package>(rt: &impl Abort, packages: &[P], rows: &[(P, Answer)]) {
+    for (new, answer) in rows {
+        assert_eq!(rt; place(packages, new), *answer);
     }
 }
 
-// Rows: the bits of a new mask, and its place after `packages`.
-fn check_masks(
-    rt: &impl Abort,
-    packages: &[Mask],
-    rows: &[(u64, Result<Option<usize>, Conflict>)],
-) {
-    for row in rows {
-        assert_eq!(rt; place(packages, &Mask { bits: row.0 }), row.1);
-    }
+// A row of the first and last lot of a new run, and its place.
+fn of_run((first, last, answer): (u16, u16, Answer)) -> (Run, Answer) {
+    (Run { first, last }, answer)
+}
+
+// A row of the bits of a new mask, and its place.
+fn of_mask((bits, answer): (u64, Answer)) -> (Mask, Answer) {
+    (Mask { bits }, answer)
 }
 
 #[test]
@@ -37,7 +31,7 @@ fn runs_find_their_place_in_a_nest(rt: HostRuntime) {
         Run { first: 2, last: 3 },
         Run { first: 7, last: 9 },
     ];
-    check_runs(
+    check(
         &rt,
         &nest,
         &[
@@ -55,9 +49,10 @@ fn runs_find_their_place_in_a_nest(rt: HostRuntime) {
             (0, 65_535, Err(Conflict::Around(1))),
             (1, 3, Err(Conflict::Around(3))),
             (6, 9, Err(Conflict::Around(4))),
-        ],
+        ]
+        .map(of_run),
     );
-    check_runs(&rt, &[], &[(1, 1, Ok(None)), (1, 0, Ok(None))]);
+    check(&rt, &[], &[(1, 1, Ok(None)), (1, 0, Ok(None))].map(of_run));
 }
 
 // Any list has an answer: the lowest conflict, or else the last package around the new one.
@@ -69,7 +64,7 @@ fn any_list_of_runs_has_an_answer(rt: HostRuntime) {
         Run { first: 1, last: 9 },
         Run { first: 4, last: 5 },
     ];
-    check_runs(
+    check(
         &rt,
         &list,
         &[
@@ -81,23 +76,25 @@ fn any_list_of_runs_has_an_answer(rt: HostRuntime) {
             (3, 3, Ok(Some(3))),
             (5, 5, Ok(Some(4))),
             (1, 1, Ok(Some(3))),
-        ],
+        ]
+        .map(of_run),
     );
     let without_lots = [Run { first: 3, last: 2 }];
-    check_runs(
+    check(
         &rt,
         &without_lots,
         &[
             (9, 8, Err(Conflict::Equal(1))),
             (1, 1, Err(Conflict::Around(1))),
-        ],
+        ]
+        .map(of_run),
     );
 }
 
 #[test]
 fn masks_find_their_place(rt: HostRuntime) {
-    check_masks(&rt, &[], &[(5, Ok(None))]);
-    check_masks(
+    check(&rt, &[], &[(5, Ok(None))].map(of_mask));
+    check(
         &rt,
         &[Mask { bits: 5 }],
         &[
@@ -106,9 +103,10 @@ fn masks_find_their_place(rt: HostRuntime) {
             (5, Err(Conflict::Equal(1))),
             (6, Err(Conflict::Crossing(1))),
             (7, Err(Conflict::Around(1))),
-        ],
+        ]
+        .map(of_mask),
     );
-    check_masks(
+    check(
         &rt,
         &[Mask { bits: u64::MAX }, Mask { bits: 7 }, Mask { bits: 5 }],
         &[
@@ -120,6 +118,7 @@ fn masks_find_their_place(rt: HostRuntime) {
             (15, Err(Conflict::Around(2))),
             (6, Err(Conflict::Crossing(3))),
             (5, Err(Conflict::Equal(3))),
-        ],
+        ]
+        .map(of_mask),
     );
 }

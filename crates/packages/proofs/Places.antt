@@ -1,11 +1,13 @@
 -- The place of a set after others is the one that its words say.
 use Rattle.std.proofs.Common.{◌≡◌, ℕ, zero, suc, ◌+◌, ◌-◌, ◌<◌, ◌⊎◌, List, [], ◌∷◌, length, get_or, Some, None, Ok, Err, Option, Result, sym, refl, ap, ◌∙◌, subst, inl, inr, arith}
+use Rattle.std.specs.Option.{option_or}
+use Rattle.std.proofs.lemmas.Option.{same_Some}
 use Rattle.packages.specs.declared.relation.Relation.{Relation}
 use Rattle.packages.specs.declared.relation.Relation.TheVariants.{Equal, Inside, Around, Apart, Crossing}
 use Rattle.packages.specs.declared.place.Conflict.{Conflict}
 use Rattle.packages.specs.declared.place.Conflict.TheVariants as conflict
 use Rattle.packages.specs.Lots.{Lots}
-use Rattle.packages.specs.Nest.{relation_of, objection, or_else, conflict_from, innermost_from, settle, place_of}
+use Rattle.packages.specs.Nest.{relation_of, objection, conflict_from, innermost_from, settle, place_of}
 use Rattle.packages.specs.Sets.{Stands}
 use Rattle.packages.specs.Places.{no_lots, package_at, Beside, Lowest, Placed, PlaceRight}
 use Rattle.packages.specs.SetsLemmas.{stands_as}
@@ -19,7 +21,7 @@ record First (n : ℕ) (s : Lots) (ts : List Lots) (c : Conflict) : Type 0 where
   before : (k : ℕ) → k < index → (relation_of s (get_or ts k no_lots) ≡ Inside) ⊎ (relation_of s (get_or ts k no_lots) ≡ Apart)
 
 first_is : (n : ℕ) (s : Lots) (ts : List Lots) (c : Conflict) → conflict_from n s ts ≡ Some c → First n s ts c
-first_is n s [] c e = let z : ◌≡◌ {A = ℕ} 0 1 = cc in absurd (omega arith)
+first_is n s [] c e = cc
 first_is n s (t ∷ ts) c e = go (objection (relation_of s t) n) refl (first_is (suc n) s ts c)
   where
     earlier : objection (relation_of s t) n ≡ None → (r : First (suc n) s ts c) (k : ℕ) → k < suc r.index
@@ -29,7 +31,7 @@ first_is n s (t ∷ ts) c e = go (objection (relation_of s t) n) refl (first_is 
 
     go : (o : Option Conflict) → objection (relation_of s t) n ≡ o → (conflict_from (suc n) s ts ≡ Some c → First (suc n) s ts c) → First n s (t ∷ ts) c
     go None none rest =
-        let r = rest (sym (ap (λ o. or_else o (conflict_from (suc n) s ts)) none) ∙ e) in
+        let r = rest (sym (ap (λ o. option_or o (conflict_from (suc n) s ts)) none) ∙ e) in
         let number : suc n + r.index ≡ n + suc r.index = omega arith in
         record {
           index = suc r.index;
@@ -42,7 +44,7 @@ first_is n s (t ∷ ts) c e = go (objection (relation_of s t) n) refl (first_is 
         record {
           index = 0;
           short = omega arith;
-          objects = ap (objection (relation_of s t)) same ∙ (some ∙ (sym (ap (λ o. or_else o (conflict_from (suc n) s ts)) some) ∙ e));
+          objects = ap (objection (relation_of s t)) same ∙ (some ∙ (sym (ap (λ o. option_or o (conflict_from (suc n) s ts)) some) ∙ e));
           before = λ k h. absurd (omega arith);
         }
 
@@ -52,15 +54,12 @@ Says r n (conflict.Equal g) = (r ≡ Equal) × (g ≡ n)
 Says r n (conflict.Crossing g) = (r ≡ Crossing) × (g ≡ n)
 Says r n (conflict.Around g) = (r ≡ Around) × (g ≡ n)
 
-some_inj : {X : Type 0} (x y : X) → ◌≡◌ {A = Option X} (Some x) (Some y) → x ≡ y
-some_inj x y e = cc
-
 says : (r : Relation) (n : ℕ) (c : Conflict) → objection r n ≡ Some c → Says r n c
-says Equal n c e = subst (λ d. Says Equal n d) (some_inj (conflict.Equal n) c e) (refl, refl)
-says Inside n c e = let z : ◌≡◌ {A = ℕ} 0 1 = cc in absurd (omega arith)
-says Around n c e = subst (λ d. Says Around n d) (some_inj (conflict.Around n) c e) (refl, refl)
-says Apart n c e = let z : ◌≡◌ {A = ℕ} 0 1 = cc in absurd (omega arith)
-says Crossing n c e = subst (λ d. Says Crossing n d) (some_inj (conflict.Crossing n) c e) (refl, refl)
+says Equal n c e = subst (λ d. Says Equal n d) (same_Some (conflict.Equal n) c e) (refl, refl)
+says Inside n c e = cc
+says Around n c e = subst (λ d. Says Around n d) (same_Some (conflict.Around n) c e) (refl, refl)
+says Apart n c e = cc
+says Crossing n c e = subst (λ d. Says Crossing n d) (same_Some (conflict.Crossing n) c e) (refl, refl)
 
 module _ (s : Lots) (ts : List Lots) where
   beside : (k : ℕ) → (relation_of s (get_or ts k no_lots) ≡ Inside) ⊎ (relation_of s (get_or ts k no_lots) ≡ Apart) → (g : ℕ) → g - 1 ≡ k → Beside s ts g

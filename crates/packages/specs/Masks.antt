@@ -153,9 +153,6 @@ module _ (n : ℕ) (short : n < 2 ^ 64) where
           absurd (ne nil)
       go false e = lot_of (mask_lots n) e
 
-  pub mask_fits_all : (l : ℕ) → (n ≢ 0) → 64 ≤ l → fits_in l (mask_lots n) ≡ true
-  mask_fits_all l ne h = fits_from l (mask_lots n) (some_lot ne, λ k e. let r = mask_has n k e in (r.0, omega (arith, r.1)))
-
   pub mask_fits : (l : ℕ) → (n ≢ 0) → (n / 2 ^ l == 0) ≡ fits_in l (mask_lots n)
   mask_fits l ne = same_tests (n / 2 ^ l == 0) (fits_in l (mask_lots n)) there back
     where

@@ -2,10 +2,10 @@
 --   relation_of, first_true       the first relation that is true of one set against another
 --   objection, conflict_from      what one earlier package, and the lowest that objects, has against a set
 --   container, innermost_from     a package if the set is inside it, and the last such package
---   or_else                       the first of two answers, if there is one
 --   settle, place_of              the place of a set: the lowest conflict, or else the innermost container or none
 -- specs/Places says in words what a place is.
 use Rattle.std.specs.Prelude.{ℕ, suc, Bool, cond, ◌&&◌, List, [], ◌∷◌, Some, None, Ok, Err, Option, Result}
+use Rattle.std.specs.Option.{option_or}
 use Rattle.packages.specs.declared.relation.Relation.{Relation}
 use Rattle.packages.specs.declared.relation.Relation.TheVariants.{Equal, Inside, Around, Apart, Crossing}
 use Rattle.packages.specs.declared.place.Conflict.{Conflict}
@@ -27,15 +27,10 @@ objection Around n = Some (conflict.Around n)
 objection Apart n = None
 objection Crossing n = Some (conflict.Crossing n)
 
--- the first answer if there is one, or else the second
-abbrev pub or_else : {X : Type 0} → Option X → Option X → Option X
-or_else None y = y
-or_else (Some x) y = Some x
-
 -- the lowest of the packages ts, numbered from n, that s may not stand beside
 abbrev pub conflict_from : ℕ → Lots → List Lots → Option Conflict
 conflict_from n s [] = None
-conflict_from n s (t ∷ ts) = or_else (objection (relation_of s t) n) (conflict_from (suc n) s ts)
+conflict_from n s (t ∷ ts) = option_or (objection (relation_of s t) n) (conflict_from (suc n) s ts)
 
 -- package n, if the new one is inside it
 abbrev pub container : Relation → ℕ → Option ℕ
@@ -48,7 +43,7 @@ container Crossing n = None
 -- The last of the packages ts, numbered from n, that s is inside. In a nest with containers first it is the innermost.
 abbrev pub innermost_from : ℕ → Lots → List Lots → Option ℕ
 innermost_from n s [] = None
-innermost_from n s (t ∷ ts) = or_else (innermost_from (suc n) s ts) (container (relation_of s t) n)
+innermost_from n s (t ∷ ts) = option_or (innermost_from (suc n) s ts) (container (relation_of s t) n)
 
 -- a conflict comes first
 abbrev pub settle : Option Conflict → Option ℕ → Result (Option ℕ) Conflict

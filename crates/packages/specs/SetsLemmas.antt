@@ -1,7 +1,7 @@
 -- The tests of sets decide what their words say.
 use Rattle.std.specs.Prelude.{◌≡◌, ℕ, zero, suc, ◌≤◌, Bool, true, false, not, ◌&&◌, ◌||◌, ◌≢◌, nat_le, refl}
 use Rattle.std.proofs.Common.{sym, ap, ◌∙◌, subst, inl, inr, arith}
-use Rattle.std.proofs.lemmas.Bool.{false≢true, leb-true, le-leb, and_parts, and_from, and_cases, not-true, not-false, not_from_false, cases_Bool, cases_lt, both_ways}
+use Rattle.std.proofs.lemmas.Bool.{false≢true, leb-true, le-leb, and_parts, and_from, and_cases, not-true, not-false, not_from_false, cases_Bool, cases_lt, both_ways, false_from_ne_true}
 use Rattle.packages.specs.declared.relation.Relation.{Relation}
 use Rattle.packages.specs.declared.relation.Relation.TheVariants.{Equal, Inside, Around, Apart, Crossing}
 use Rattle.packages.specs.Lots.{Lots, has, all, empty, within, apart, fits_in}
@@ -127,10 +127,6 @@ relation_from s t x y z e f h =
 pub stands_as : (s t : Lots) (r : Relation) → relation_of s t ≡ r → Stands s t r
 stands_as s t r e = subst (λ x. Stands s t x) e (stands_so s t)
 
-fails : (x : Bool) → (x ≢ true) → false ≡ x
-fails true never = absurd (never refl)
-fails false never = refl
-
 -- and no other relation stands
 pub stands_only : (s t : Lots) (r : Relation) → Stands s t r → r ≡ relation_of s t
 stands_only s t r h = go r h
@@ -139,7 +135,7 @@ stands_only s t r h = go r h
     part s t w = sym (within_from s t w)
 
     no_part : (s t : Lots) → (Within s t → ⊥) → false ≡ within s t
-    no_part s t never = fails (within s t) (λ e. never (within_says s t e))
+    no_part s t never = sym (false_from_ne_true (within s t) (λ e. never (within_says s t e)))
 
     go : (r : Relation) → Stands s t r → r ≡ relation_of s t
     go Equal h = relation_from s t true true (apart s t) (part s t h.0) (part t s h.1) refl
@@ -147,7 +143,7 @@ stands_only s t r h = go r h
     go Around h = relation_from s t false true (apart s t) (no_part s t h.0) (part t s h.1) refl
     go Apart h = relation_from s t false false true (no_part s t h.0) (no_part t s h.1) (sym (apart_from s t h.2))
     go Crossing h =
-        relation_from s t false false false (no_part s t h.0) (no_part t s h.1) (fails (apart s t) (λ e. h.2 (apart_says s t e)))
+        relation_from s t false false false (no_part s t h.0) (no_part t s h.1) (sym (false_from_ne_true (apart s t) (λ e. h.2 (apart_says s t e))))
 
 pub exact : Exact
 exact = record {
@@ -162,7 +158,7 @@ exact = record {
 pub true_answers : (n : ℕ) (s t : Lots) (fits : Bool) (relation : Relation) → fits ≡ fits_in n s → relation ≡ relation_of s t → TrueAnswers n s t fits relation
 true_answers n s t fits relation e f = record {
   accepted = λ h. e ∙ fits_from n s h;
-  refused = λ never. e ∙ sym (fails (fits_in n s) (λ h. never (fits_says n s h)));
+  refused = λ never. e ∙ false_from_ne_true (fits_in n s) (λ h. never (fits_says n s h));
   stands = stands_as s t relation (sym f);
   not_apart = λ w apart. (stands_as s t Apart (sym f ∙ apart)).2 w.0 w.1 w.2;
   is_apart = λ h h' never. f ∙ sym (stands_only s t Apart (

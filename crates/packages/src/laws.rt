@@ -12,13 +12,11 @@ use crate::run::Run;
 
 // The definitions that contracts cite mean what their words say, for all sets of lots,
 // and give what the rules say of the masks 5, 4, 6 and 7.
-pub fn tests_are_exact() -> u8
+pub fn tests_are_exact()
     ensures sets { Exact }
     ensures place { PlaceRight }
     ensures masks { MasksWorked }
-{
-    0
-}
+{}
 
 // Whether a package fits among `lots` lots, and how it stands to another.
 // The contract holds for every kind by the trait alone. So a kind that turned everything away,

@@ -11,16 +11,11 @@ pub trait Package: Copy {
     // The highest lot that a package of this kind can have.
     const HIGHEST: u32;
 
+    // The same number, for clauses.
+    ghost HIGHEST: { ℕ };
+
     // The set of lots that a package means.
     ghost meaning: { Self → Lots };
-
-    // The number that `HIGHEST` stands for, which no lot of a package is above.
-    ghost highest: { ℕ };
-
-    // Answers `HIGHEST`. Code over all kinds asks this function, whose contract gives the number
-    // `highest`; each kind answers with its constant, and `highest_lots` pins the constants.
-    fn highest_lot() -> u32
-        ensures { result ≡ highest };
 
     // Whether the set is non-empty and its lots lie from 1 to `lots`.
     fn fits(&self, lots: u32) -> bool
@@ -35,5 +30,5 @@ pub trait Package: Copy {
         ensures { result ≡ size_of (meaning self.now) };
 
     // A law, which each kind proves: no lot of a package is above the highest.
-    ghost bounded: { (p : Self) (k : ℕ) → has (meaning p) k ≡ true → k ≤ highest };
+    ghost bounded: { (p : Self) (k : ℕ) → has (meaning p) k ≡ true → k ≤ HIGHEST };
 }

@@ -24,6 +24,7 @@ pub fn place<P: Package>(packages: &[P], new: &P) -> Result<Option<usize>, Confl
     ensures nest { ContainerRight (P.Package.meaning new.now) (map P.Package.meaning packages.now) result }
     ensures grows { NestGrows (P.Package.meaning new.now) (map P.Package.meaning packages.now) result }
 {
+    // A `for` is as plain as a `try_fold` here, which would hand `innermost` on at each arm.
     let mut innermost = None;
     for (i, earlier) in packages.iter().enumerate() {
         match new.compare(earlier) {

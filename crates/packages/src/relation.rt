@@ -12,21 +12,18 @@ pub enum Relation {
     Crossing,
 }
 
-// The relation of one set to another, from three answers: whether it is within the other,
-// whether the other is within it, and whether they share no lot.
-pub(crate) fn first_true(within: bool, around: bool, apart: bool) -> Relation
-    ensures { result ≡ first_true within around apart }
-{
-    match (within, around) {
-        (true, true) => Relation::Equal,
-        (true, false) => Relation::Inside,
-        (false, true) => Relation::Around,
-        (false, false) => {
-            if apart {
-                Relation::Apart
-            } else {
-                Relation::Crossing
-            }
+impl Relation {
+    // The relation of one set to another, from three answers: whether it is within the other,
+    // whether the other is within it, and whether they share no lot.
+    pub(crate) fn first_true(within: bool, around: bool, apart: bool) -> Relation
+        ensures { result ≡ first_true within around apart }
+    {
+        match (within, around) {
+            (true, true) => Relation::Equal,
+            (true, false) => Relation::Inside,
+            (false, true) => Relation::Around,
+            (false, false) if apart => Relation::Apart,
+            (false, false) => Relation::Crossing,
         }
     }
 }

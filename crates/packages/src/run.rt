@@ -4,7 +4,7 @@ ghost use Rattle.packages.specs.Lots.{run_lots, highest_run_lot, within, apart};
 ghost use Rattle.packages.specs.Runs.{run_has};
 
 use crate::package::Package;
-use crate::relation::{Relation, first_true};
+use crate::relation::Relation;
 
 // The lots from `first` to `last`; none where `last` is below `first`.
 #[derive(Clone, Copy, PartialEq, Eq, Debug)]
@@ -32,22 +32,18 @@ impl Run {
 impl Package for Run {
     const HIGHEST: u32 = 65_535;
 
-    ghost meaning = { λ r. run_lots r.first r.last };
+    ghost HIGHEST = { highest_run_lot };
 
-    ghost highest = { highest_run_lot };
+    ghost meaning = { λ r. run_lots r.first r.last };
 
     ghost bounded = { λ p k e. (run_has p.first p.last k e).2 };
 
-    fn highest_lot() -> u32 {
-        Self::HIGHEST
-    }
-
     fn fits(&self, lots: u32) -> bool {
-        1 <= self.first && (self.first <= self.last && u32::from(self.last) <= lots)
+        1 <= self.first && self.first <= self.last && u32::from(self.last) <= lots
     }
 
     fn compare(&self, other: &Run) -> Relation {
-        first_true(self.within(other), other.within(self), self.apart(other))
+        Relation::first_true(self.within(other), other.within(self), self.apart(other))
     }
 
     fn size(&self) -> u32 {

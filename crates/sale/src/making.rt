@@ -13,15 +13,16 @@ impl<P: Package> Sale<P> {
     // A sale of `lots` lots, or of none where the kind has no such lot, with `table` for its packages.
     // Where memory is wanting the table comes back.
     pub fn new(heap: Global, lots: u32, table: Vec<P>) -> Result<Sale<P>, Vec<P>>
-        ensures { MatchResult result (λ s. Holds P.Package.meaning s (book_of (making_of P.Package.highest lots (vec_len table))) × (s.table ≡ table)) (λ back. back ≡ table) }
+        ensures { MatchResult result (λ s. Holds P.Package.meaning s (book_of (making_of P.Package.HIGHEST lots (vec_len table))) × (s.table ≡ table)) (λ back. back ≡ table) }
     {
+        // A closure of `map_err` would take the table away, which has to come back.
         let Ok(parents) = Vec::with_capacity(heap, MAX_PACKAGES) else {
             return Err(table);
         };
         let Ok(bids) = Vec::with_capacity(heap, MAX_BIDS) else {
             return Err(table);
         };
-        let lots = if lots <= P::highest_lot() { lots } else { 0 };
+        let lots = if lots <= P::HIGHEST { lots } else { 0 };
         Ok(Sale {
             lots,
             table,
