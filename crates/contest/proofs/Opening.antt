@@ -32,9 +32,6 @@ module _ (c : Contest) (top : ℕ) (on parent : ℕ → ℕ) (nest : Nested c pa
         apart = λ j k l p q. go j k l (side j p) (side k q);
       }
     where
-      in_g : ℕ → Bool
-      in_g k = within parent g (on k)
-
       f' : ClashFree c t
       f' = only_free c (λ k. within parent g (on k)) t ft
 

@@ -11,74 +11,56 @@ ghost use Rattle.contest.specs.Theorems.{TotalKeeps, AlwaysOneAward, ChargesWhol
 use scales::Scale;
 
 // In a nest a package's total is the product over its children and the sum of its own worths, for every lawful scale.
-pub fn nest_splits<S: Scale>() -> u8
+pub fn nest_splits<S: Scale>()
     ensures { Splits S.Scale.ring }
-{
-    0
-}
+{}
 
 // In a nest of sets of lots two packages share a lot exactly where one is the other or lies inside it.
-pub fn nest_is_sets() -> u8
+pub fn nest_is_sets()
     ensures { NestIsSets }
-{
-    0
-}
+{}
 
 // The same contests have the same totals, in every lawful scale, and bids of worth nought count as if they did not stand.
-pub fn same_contests_agree<S: Scale>() -> u8
+pub fn same_contests_agree<S: Scale>()
     ensures same { SameAgree S.Scale.ring }
     ensures nought { NoughtDrops S.Scale.Meaning }
-{
-    0
-}
+{}
 
 // Contests with the same counts are the same.
-pub fn counts_tell_contests() -> u8
+pub fn counts_tell_contests()
     ensures counts { AgreeSame }
     ensures coded { TotalsTell }
-{
-    0
-}
+{}
 
 // There is one award, charges are whole, and truth pays.
-pub fn awards_and_charges() -> u8
+pub fn awards_and_charges()
     ensures award { AlwaysOneAward }
     ensures charge { ChargesWhole }
     ensures truth { TruthAlwaysPays }
     ensures alike { AlikeSame }
-{
-    0
-}
+{}
 
 // What a total sums over are the clash-free sets.
-pub fn totals_go_over_clash_free_sets() -> u8
+pub fn totals_go_over_clash_free_sets()
     ensures { TotalKeeps }
-{
-    0
-}
+{}
 
 // A total of prices has the best revenue: alone, without the bids of one buyer, or with the lowest bid number in any best set.
-pub fn totals_are_best<S: Scale>() -> u8
+pub fn totals_are_best<S: Scale>()
     ensures scale { TotalChooses S.Scale.Meaning }
     ensures choices { ChoicesTotal }
     ensures revenue { RevenueTotal }
     ensures without { WithoutTotal }
-{
-    0
-}
+{}
 
 // The award is found by one way down the nest, from the lowest numbers in any best set inside each package.
-pub fn descent_awards() -> u8
+pub fn descent_awards()
     ensures { DescentAwards }
-{
-    0
-}
+{}
 
 // In Tied over Count a total of prices is the best revenue with the number of clash-free sets that fetch it, and in Best three it is
 // the three greatest revenues of such sets.
-pub fn appraisals_count_choices() -> u8
+pub fn appraisals_count_choices()
     ensures ways { WaysCounted }
     ensures top { TopFetched }
-{
-    0
-}
+{}

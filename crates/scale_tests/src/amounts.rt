@@ -1,4 +1,5 @@
 // Revenue and BestThree.
+use crate::pairs::check_pair;
 use scales::{BestThree, PricedScale, Revenue, Scale, TOP_AMOUNT};
 
 // Two values of Revenue, their sum and their product.
@@ -41,12 +42,12 @@ const REVENUES: [[Option<u64>; 4]; 10] = [
 ];
 
 // Prices, and the amounts that they are worth.
-const PRICES: [[u64; 2]; 5] = [
-    [0, 0],
-    [TOP_AMOUNT - 1, TOP_AMOUNT - 1],
-    [TOP_AMOUNT, TOP_AMOUNT],
-    [TOP_AMOUNT + 1, TOP_AMOUNT],
-    [u64::MAX, TOP_AMOUNT],
+const PRICES: [(u64, u64); 5] = [
+    (0, 0),
+    (TOP_AMOUNT - 1, TOP_AMOUNT - 1),
+    (TOP_AMOUNT, TOP_AMOUNT),
+    (TOP_AMOUNT + 1, TOP_AMOUNT),
+    (u64::MAX, TOP_AMOUNT),
 ];
 
 #[test]
@@ -54,12 +55,12 @@ fn revenues_compare_and_add(rt: HostRuntime) {
     for [a, b, sum, product] in REVENUES {
         let a = Revenue { held: a };
         let b = Revenue { held: b };
-        assert!(rt; [a.sum(b).amount(), b.sum(a).amount()] == [sum, sum]);
-        assert!(rt; [a.product(b).amount(), b.product(a).amount()] == [product, product]);
+        check_pair(&rt, Revenue::amount, a, b, sum, product);
     }
-    assert!(rt; [Revenue::nought().amount(), Revenue::unit().amount()] == [None, Some(0)]);
-    for [price, amount] in PRICES {
-        assert!(rt; Revenue::worth(price).amount() == Some(amount));
+    assert_eq!(rt; Revenue::nought().amount(), None);
+    assert_eq!(rt; Revenue::unit().amount(), Some(0));
+    for (price, amount) in PRICES {
+        assert_eq!(rt; Revenue::worth(price).amount(), Some(amount));
     }
 }
 
@@ -132,12 +133,14 @@ fn lists_keep_the_three_greatest(rt: HostRuntime) {
     for [a, b, sum, product] in LISTS {
         let a = BestThree::new(a);
         let b = BestThree::new(b);
-        assert!(rt; [a.sum(b).amounts(), b.sum(a).amounts()] == [sum, sum]);
-        assert!(rt; [a.product(b).amounts(), b.product(a).amounts()] == [product, product]);
+        check_pair(&rt, BestThree::amounts, a, b, sum, product);
     }
-    assert!(rt; BestThree::nought().amounts() == [None, None, None]);
-    assert!(rt; BestThree::unit().amounts() == [Some(0), None, None]);
-    for [price, amount] in PRICES {
-        assert!(rt; BestThree::worth(price).amounts() == [Some(amount), None, None]);
+    assert_eq!(rt; BestThree::nought().amounts(), [None, None, None]);
+    assert_eq!(rt; BestThree::unit().amounts(), [Some(0), None, None]);
+    for (price, amount) in PRICES {
+        assert_eq!(rt;
+            BestThree::worth(price).amounts(),
+            [Some(amount), None, None]
+        );
     }
 }

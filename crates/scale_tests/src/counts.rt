@@ -1,4 +1,5 @@
 // Count.
+use crate::pairs::check_pair;
 use scales::{Count, PricedScale, Scale, TOP_COUNT};
 
 // Two numbers, their sum and their product.
@@ -22,11 +23,11 @@ fn counts_add_and_multiply(rt: HostRuntime) {
     for [a, b, sum, product] in CASES {
         let a = Count { number: a };
         let b = Count { number: b };
-        assert!(rt; [a.sum(b).value(), b.sum(a).value()] == [sum, sum]);
-        assert!(rt; [a.product(b).value(), b.product(a).value()] == [product, product]);
+        check_pair(&rt, Count::value, a, b, sum, product);
     }
-    assert!(rt; [Count::nought().value(), Count::unit().value()] == [0, 1]);
+    assert_eq!(rt; Count::nought().value(), 0);
+    assert_eq!(rt; Count::unit().value(), 1);
     for price in [0, 1, 1_000_000_000, u64::MAX] {
-        assert!(rt; Count::worth(price).value() == 1);
+        assert_eq!(rt; Count::worth(price).value(), 1);
     }
 }

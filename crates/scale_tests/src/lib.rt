@@ -6,4 +6,6 @@ mod amounts;
 #[cfg(test)]
 mod counts;
 #[cfg(test)]
+mod pairs;
+#[cfg(test)]
 mod ties;

@@ -1,10 +1,10 @@
 -- Each meaning of a scale is that of a value.
 use Rattle.std.proofs.Common.{◌≡◌, ℕ, ◌≤◌, List, [], ◌∷◌, length, Some, None, refl, ap, ◌∙◌, arith}
+use Rattle.std.specs.List.{slice_get}
 use Rattle.scales.specs.BestThree.{best_three, best_of}
 use Rattle.scales.specs.Count.{count_of}
 use Rattle.scales.specs.Cut.{top_amount}
-use Rattle.scales.specs.Lowest.{no_bid, bid, lowest_of}
-use Rattle.scales.specs.Meanings.{revenue_from, count_from, place, best_from, lowest_from, tied_from, MeansBack}
+use Rattle.scales.specs.Meanings.{revenue_from, count_from, best_from, tied_from, MeansBack}
 use Rattle.scales.specs.Places.{somes}
 use Rattle.scales.specs.Revenue.{revenue_of}
 use Rattle.scales.specs.Tied.{over, amount, tied_of}
@@ -19,7 +19,7 @@ revenue_back (Some a) = ap Some (upto_path _ _ (omega arith))
 pub count_back : MeansBack count_from count_of
 count_back m = upto_path _ _ (omega arith)
 
-three_places : (xs : List ℕ) → length xs ≤ 3 → somes (place 0 xs ∷ place 1 xs ∷ place 2 xs ∷ []) ≡ xs
+three_places : (xs : List ℕ) → length xs ≤ 3 → somes (slice_get xs 0 ∷ slice_get xs 1 ∷ slice_get xs 2 ∷ []) ≡ xs
 three_places [] h = refl
 three_places (x ∷ []) h = refl
 three_places (x ∷ y ∷ []) h = refl
@@ -28,11 +28,6 @@ three_places (x ∷ y ∷ z ∷ w ∷ xs) h = absurd (omega arith)
 
 pub best_back : MeansBack best_from best_of
 best_back m = ap best_three (three_places m.amounts m.few) ∙ best_again m
-
-pub lowest_back : MeansBack lowest_from lowest_of
-lowest_back None = refl
-lowest_back (Some no_bid) = refl
-lowest_back (Some (bid n)) = refl
 
 pub tied_back : {S M : Type 0} (meaning : S → M) (inner : M → S) → MeansBack inner meaning → MeansBack (tied_from inner) (tied_of meaning)
 tied_back meaning inner e None = refl

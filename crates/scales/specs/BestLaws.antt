@@ -7,7 +7,7 @@ use Rattle.std.proofs.Common.{append_assoc, ap, ap₂, ◌∙◌, ⊎_elim, add_
 use Rattle.std.proofs.Math.Path.{sym}
 use mathlib.Core.HLevel.{is_prop→PathP, ×_prop, Unit-prop}
 use Rattle.std.proofs.Math.Bridge.{le_prop}
-use Rattle.std.specs.List.{AllByRecursion}
+use Rattle.std.specs.List.{AllByRecursion, AllByRecursion-prop}
 use Rattle.std.proofs.lemmas.Bool.{cases_lt, le-leb, lt-leb, cond-true, cond-false}
 use Rattle.scales.specs.Best.{Falling, Best, insert, sorted, best, pair_sums, bests, sorted_falling, total, reaches, KeepsGreatest, OnlyGreatest}
 use Rattle.scales.specs.Semiring.{Laws}
@@ -127,8 +127,7 @@ falling_known (x ∷ xs) (y ∷ ys) f g e =
 -- A value is known by its amounts.
 
 within_prop : (m : ℕ) (xs : List ℕ) → IsProp (AllByRecursion (λ x. x ≤ m) xs)
-within_prop m [] = Unit-prop
-within_prop m (x ∷ xs) = ×_prop le_prop (within_prop m xs)
+within_prop m = AllByRecursion-prop (λ x. x ≤ m) (λ x. le_prop)
 
 falling_prop : (xs : List ℕ) → IsProp (Falling xs)
 falling_prop [] = Unit-prop
@@ -294,7 +293,7 @@ pairs_assoc g xs ys zs =
         (λ y. total_same (λ z. g (x + y + z)) (λ z. g (x + (y + z))) (λ z. ap g (add_assoc x y z)) zs) ys
         ∙ sym (total_pairs (λ w. g (x + w)) ys zs)
 
-pairs_append : (g : ℕ → ℕ) (xs ys zs : List ℕ) → total g (pair_sums xs (ys ++ zs)) ≡ total g (pair_sums xs ys ++ pair_sums xs zs)
+pub pairs_append : (g : ℕ → ℕ) (xs ys zs : List ℕ) → total g (pair_sums xs (ys ++ zs)) ≡ total g (pair_sums xs ys ++ pair_sums xs zs)
 pairs_append g xs ys zs =
     total_pairs_second g xs (ys ++ zs) ∙ total_append (λ y. total (λ x. g (x + y)) xs) ys zs
     ∙ sym (total_append g (pair_sums xs ys) (pair_sums xs zs) ∙ ap₂ ◌+◌ (total_pairs_second g xs ys) (total_pairs_second g xs zs))

@@ -6,11 +6,10 @@
 --   best_of      what a value means: they are read cut and in falling order
 --   best_worth   a price is worth itself alone
 --   no_amounts   the value without amounts
---   InOrder      the places of a value are in falling order, the empty ones last
 use Rattle.std.specs.Prelude.{ℕ, List, [], ◌∷◌, Some, None}
 use Rattle.scales.specs.Best.{Best, best, bests}
 use Rattle.scales.specs.Cut.{top_amount}
-use Rattle.scales.specs.Places.{somes, ◌≼◌}
+use Rattle.scales.specs.Places.{somes}
 use Rattle.scales.specs.Semiring.{Semiring}
 use Rattle.scales.specs.declared.best_three.BestThree.{BestThree}
 
@@ -24,16 +23,13 @@ abbrev pub best_three : List ℕ → BestThrees
 best_three = best 3 top_amount
 
 abbrev pub held : BestThree → List ℕ
-held b = somes (b.first ∷ b.second ∷ b.third ∷ [])
+held b = somes b.places
 
 abbrev pub best_of : BestThree → BestThrees
 best_of b = best_three (held b)
 
 abbrev pub best_worth : ℕ → BestThree
-best_worth price = record { first = Some price; second = None; third = None }
+best_worth price = record { places = Some price ∷ None ∷ None ∷ [] }
 
 abbrev pub no_amounts : BestThree
-no_amounts = record { first = None; second = None; third = None }
-
-abbrev pub InOrder : BestThree → Type 0
-InOrder b = (b.second ≼ b.first) × (b.third ≼ b.second)
+no_amounts = record { places = None ∷ None ∷ None ∷ [] }

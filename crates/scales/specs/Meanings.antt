@@ -1,10 +1,9 @@
 -- The meanings of a scale are exactly its values: each value has a meaning, and each meaning is that of a value.
 --   revenue_from, count_from, best_from, lowest_from  a value with a given meaning; its numbers are within the limits
---   place                                             the number at a place of a list, if the list is so long
 --   tied_from                                         a value of Tied, by inner values with given meanings
 --   MeansBack                                         the value made from a meaning has that meaning
 --   TiedMeansBack                                     Tied has this over any scale that has it
-use Rattle.std.specs.Prelude.{◌≡◌, ℕ, zero, suc, List, [], ◌∷◌, Some, None, Option}
+use Rattle.std.specs.Prelude.{◌≡◌, [], ◌∷◌, Some, None, Option, slice_get}
 use Rattle.scales.specs.BestThree.{BestThrees}
 use Rattle.scales.specs.Count.{Counts}
 use Rattle.scales.specs.Lowest.{First, no_bid, bid}
@@ -24,13 +23,8 @@ revenue_from m = record { held = crowns m }
 abbrev pub count_from : Counts → Count
 count_from m = record { number = m.number }
 
-abbrev pub place : ℕ → List ℕ → Option ℕ
-place i [] = None
-place zero (x ∷ xs) = Some x
-place (suc i) (x ∷ xs) = place i xs
-
 abbrev pub best_from : BestThrees → BestThree
-best_from m = record { first = place 0 m.amounts; second = place 1 m.amounts; third = place 2 m.amounts }
+best_from m = record { places = slice_get m.amounts 0 ∷ slice_get m.amounts 1 ∷ slice_get m.amounts 2 ∷ [] }
 
 abbrev pub lowest_from : Option First → Lowest
 lowest_from None = lowest.Nothing

@@ -1,7 +1,7 @@
-// Amounts of crowns, as Revenue, BestThree and Tied read, compare and add them.
-ghost use Rattle.std.specs.Prelude.{◌≡◌, ◌+◌, min, max};
+// Amounts of crowns, as Revenue, BestThree and Tied read and add them.
+ghost use Rattle.std.specs.Prelude.{◌≡◌, ◌+◌, min};
 ghost use Rattle.std.specs.Option.{option_map};
-ghost use Rattle.scales.specs.Adjoined.{add_some, mul_both};
+ghost use Rattle.scales.specs.Adjoined.{mul_both};
 ghost use Rattle.scales.specs.Cut.{top_amount};
 
 // The greatest amount.
@@ -19,20 +19,6 @@ pub(crate) fn cut(amount: Option<u64>) -> Option<u64>
     ensures { result ≡ option_map (min top_amount) amount }
 {
     amount.min(Some(TOP_AMOUNT))
-}
-
-// The greater of two; none is below every amount.
-pub(crate) fn greater(a: Option<u64>, b: Option<u64>) -> Option<u64>
-    ensures { result ≡ add_some max a b }
-{
-    a.max(b)
-}
-
-// The lesser of two; none is below every amount.
-pub(crate) fn lesser(a: Option<u64>, b: Option<u64>) -> Option<u64>
-    ensures { result ≡ mul_both min a b }
-{
-    a.min(b)
 }
 
 // Both added, if both are there.

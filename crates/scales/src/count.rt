@@ -1,5 +1,5 @@
 // Count: how many choices there are.
-ghost use Rattle.std.specs.Prelude.{◌≡◌};
+ghost use Rattle.std.specs.Prelude.{◌≡◌, min};
 ghost use Rattle.scales.specs.Count.{Counts, counts, count_of, count_worth, no_count};
 ghost use Rattle.scales.specs.Cut.{top_count};
 ghost use Rattle.scales.specs.CountLaws.{counting_laws};
@@ -17,6 +17,15 @@ pub struct Count {
 }
 
 impl Count {
+    // The count that a number means.
+    fn cut(number: u64) -> Count
+        ensures { result.number ≡ min top_count number }
+    {
+        Count {
+            number: number.min(TOP_COUNT),
+        }
+    }
+
     // The number that is meant.
     pub fn value(self) -> u64
         ensures { result ≡ (count_of self).number }
@@ -25,6 +34,7 @@ impl Count {
     }
 }
 
+#[tactic(auto, using(crate::specs::Numbers::cut_path, crate::specs::Numbers::cut_factors))]
 impl Scale for Count {
     ghost Meaning = { Counts };
 
@@ -45,17 +55,11 @@ impl Scale for Count {
     }
 
     fn sum(self, other: Count) -> Count {
-        let number = self.number.saturating_add(other.number);
-        Count {
-            number: number.min(TOP_COUNT),
-        }
+        Count::cut(self.number.saturating_add(other.number))
     }
 
     fn product(self, other: Count) -> Count {
-        let number = self.number.saturating_mul(other.number);
-        Count {
-            number: number.min(TOP_COUNT),
-        }
+        Count::cut(self.number.saturating_mul(other.number))
     }
 }
 

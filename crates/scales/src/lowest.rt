@@ -43,13 +43,11 @@ impl Scale for Lowest {
         }
     }
 
+    // Where neither is none, the product is the lowest too.
     fn product(self, other: Lowest) -> Lowest {
         match (self, other) {
-            (Lowest::Nothing, _) => Lowest::Nothing,
-            (_, Lowest::Nothing) => Lowest::Nothing,
-            (Lowest::NoBid, _) => other,
-            (_, Lowest::NoBid) => self,
-            (Lowest::Bid(a), Lowest::Bid(b)) => Lowest::Bid(a.min(b)),
+            (Lowest::Nothing, _) | (_, Lowest::Nothing) => Lowest::Nothing,
+            _ => self.sum(other),
         }
     }
 }

@@ -7,7 +7,7 @@ ghost use Rattle.scales.specs.AdjoinedLaws.{adjoined_laws};
 ghost use Rattle.scales.specs.RevenueLaws.{greatest_laws};
 ghost use Rattle.scales.specs.Numbers.{cut_path};
 
-use crate::amount::{cut, greater, together};
+use crate::amount::{cut, together};
 use crate::{PricedScale, Scale};
 
 // None, or an amount. A number above the greatest amount is read as the greatest amount.
@@ -44,9 +44,10 @@ impl Scale for Revenue {
         Revenue { held: Some(0) }
     }
 
+    #[tactic(auto, using(crate::proofs::Amounts::cut_max))]
     fn sum(self, other: Revenue) -> Revenue {
         Revenue {
-            held: greater(self.held, other.held),
+            held: self.held.max(other.held),
         }
     }
 

@@ -1,7 +1,7 @@
 // Tied: the greatest amount of any choice, with an inner value of the choices that tie for it.
 ghost use Rattle.std.specs.Prelude.{◌≡◌, Some};
 ghost use Rattle.std.proofs.Common.{ap};
-ghost use Rattle.scales.specs.Tied.{TiedOver, tied_over, tied_of, tied_worth, settled, settled_of, no_tied, ties};
+ghost use Rattle.scales.specs.Tied.{TiedOver, tied_over, tied_of, tied_worth, settled, settled_of, no_tied, tie, ties};
 ghost use Rattle.scales.specs.Cut.{top_amount};
 ghost use Rattle.scales.specs.AdjoinedLaws.{adjoined_laws};
 ghost use Rattle.scales.specs.TieLaws.{ties_laws, tie_cut};
@@ -19,6 +19,17 @@ pub enum Tied<S> {
 }
 
 impl<S: Scale> Tied<S> {
+    // The amount with an inner value, or over from the greatest amount on.
+    fn tie(amount: u64, inner: S) -> Tied<S>
+        ensures { tied_of S.Scale.meaning result ≡ Some (tie top_amount amount (S.Scale.meaning inner)) }
+    {
+        if amount < TOP_AMOUNT {
+            Tied::Amount(amount, inner)
+        } else {
+            Tied::Over
+        }
+    }
+
     // The amount with its inner value, if there is one and it is not over.
     pub fn best(self) -> Option<(u64, S)>
         ensures { settled_of S.Scale.meaning result ≡ settled (tied_of S.Scale.meaning self) }
@@ -65,16 +76,8 @@ impl<S: Scale> Scale for Tied<S> {
 
     fn product(self, other: Tied<S>) -> Tied<S> {
         match (self, other) {
-            (Tied::Nothing, _) => Tied::Nothing,
-            (_, Tied::Nothing) => Tied::Nothing,
-            (Tied::Amount(a, x), Tied::Amount(b, y)) => {
-                let total = cut_sum(a, b);
-                if total < TOP_AMOUNT {
-                    Tied::Amount(total, x.product(y))
-                } else {
-                    Tied::Over
-                }
-            }
+            (Tied::Nothing, _) | (_, Tied::Nothing) => Tied::Nothing,
+            (Tied::Amount(a, x), Tied::Amount(b, y)) => Tied::tie(cut_sum(a, b), x.product(y)),
             _ => Tied::Over,
         }
     }
@@ -86,10 +89,6 @@ impl<S: PricedScale> PricedScale for Tied<S> {
     ghost cuts = { λ price. ap Some (tie_cut top_amount (λ p. S.Scale.meaning (S.PricedScale.worth p)) price) };
 
     fn worth(price: u64) -> Tied<S> {
-        if price < TOP_AMOUNT {
-            Tied::Amount(price, S::worth(price))
-        } else {
-            Tied::Over
-        }
+        Tied::tie(price, S::worth(price))
     }
 }

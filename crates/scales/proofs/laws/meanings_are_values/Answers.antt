@@ -1,5 +1,11 @@
-use Rattle.scales.proofs.MeaningsBack.{revenue_back, count_back, best_back, lowest_back}
+use Rattle.scales.proofs.MeaningsBack.{revenue_back, count_back, best_back}
 use Rattle.scales.proofs.laws.meanings_are_values.Goals as goal
 
-pub returns : goal.returns
-returns c = record { revenue = revenue_back; count = count_back; best = best_back; lowest = lowest_back }
+pub returns-clause-revenue : goal.returns-clause-revenue
+returns-clause-revenue c = revenue_back
+
+pub returns-clause-count : goal.returns-clause-count
+returns-clause-count c = count_back
+
+pub returns-clause-best : goal.returns-clause-best
+returns-clause-best c = best_back

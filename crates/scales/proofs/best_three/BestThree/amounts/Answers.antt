@@ -1,18 +1,14 @@
-use Rattle.std.proofs.Common.{[], ◌∷◌, sym, ap, ◌∙◌, ap₂, subst}
-use Rattle.scales.specs.BestThree.{BestThrees}
+use Rattle.std.proofs.Common.{min, sym, ap, ◌∙◌, subst, rules, arith}
+use Rattle.std.specs.Option.{option_map}
 use Rattle.scales.specs.Cut.{top_amount}
-use Rattle.scales.specs.Places.{in_front, Packed}
-use Rattle.scales.specs.PlacesLaws.{cuts_read, packed}
+use Rattle.scales.specs.Places.{somes, Packed}
+use Rattle.scales.proofs.Reading.{sorted_down, mapped, amounts_read}
 use Rattle.scales.proofs.best_three.BestThree.amounts.Goals as goal
 
 pub returns : goal.returns
 returns c =
-    let o = c.with_all-ordered.result in
-    let h = c.with_all-ordered.ensures.order (tt, tt) in
-    record {
-      amounts =
-          ap₂ in_front c.cut.ensures (ap₂ in_front c.cut-2.ensures (ap (λ t. in_front t []) c.cut-3.ensures))
-          ∙ cuts_read top_amount o.first o.second o.third h.0 h.1
-          ∙ ap (λ (b : BestThrees). b.amounts) c.with_all-ordered.ensures.means;
-      packed = subst Packed (sym (λ i. c.cut.ensures i ∷ c.cut-2.ensures i ∷ c.cut-3.ensures i ∷ [])) (packed top_amount o.first o.second o.third h.0 h.1);
-    }
+    let down = c.sort_unstable_by.new.self in
+    let s = c.sort_unstable_by.ensures in
+    let cuts = mapped (option_map (min top_amount)) down c.map.result 3 (omega arith) c.map.ensures.items (λ a r p q k. search rules) in
+    let read = amounts_read top_amount c.args.self.places down s.permutation (omega arith) (sorted_down down s.sorted (λ a r f' k. search rules)) in
+    record { amounts = ap somes cuts ∙ read.0; packed = subst Packed (sym cuts) read.1 }

@@ -1,7 +1,7 @@
 use Rattle.std.proofs.Common.{ap, ◌∙◌}
 use Rattle.std.specs.Option.{option_map}
 use Rattle.scales.specs.Cut.{cut, top_amount}
-use Rattle.scales.specs.RevenueLaws.{cut_together}
+use Rattle.scales.proofs.Amounts.{cut_together}
 use Rattle.scales.proofs.revenue.RevenueScale.product.Goals as goal
 
 pub returns : goal.returns

@@ -1,8 +1,0 @@
-use Rattle.std.proofs.Common.{ap, ◌∙◌}
-use Rattle.std.specs.Option.{option_map}
-use Rattle.scales.specs.Cut.{cut, top_amount}
-use Rattle.scales.specs.RevenueLaws.{cut_greater}
-use Rattle.scales.proofs.revenue.RevenueScale.sum.Goals as goal
-
-pub returns : goal.returns
-returns c = ap (option_map (cut top_amount)) c.greater.ensures ∙ cut_greater top_amount c.args.self.held c.args.other.held
