@@ -40,9 +40,7 @@ fn remarks_and_line_ends_change_nothing(rt: HostRuntime) -> Result<(), Fail> {
         "SALE 94\n*\n* B 9 9\nG\n*G\nB 1 10\nG\nL\n**\nB 2 6\nE\nG\n*E\nL\nB 3 5\nE\n*\r\r\nE\n*END\nEND\n",
     ] {
         let c = contents(&rt, file)?;
-        assert_eq!(rt; c.lots, worked.lots);
-        assert!(rt; c.packages.as_slice() == worked.packages.as_slice());
-        assert!(rt; c.bids.as_slice() == worked.bids.as_slice());
+        assert!(rt; c == worked);
     }
     Ok(())
 }

@@ -1,4 +1,5 @@
 // Files at a limit, and one step beyond it.
+use crate::refused::refusal;
 use bids::limits::{MAX_BIDS, MAX_PACKAGES};
 use salefile::limits::MAX_BYTES;
 use salefile::read::read;
@@ -12,22 +13,9 @@ fn repeated(
     part: &str,
     times: usize,
     back: &str,
-) -> Result<Vec<u8>, AllocError> {
-    let mut file = Vec::new(heap);
-    file.extend_from_slice(front.as_bytes())?;
-    for _ in 0..times {
-        file.extend_from_slice(part.as_bytes())?;
-    }
-    file.extend_from_slice(back.as_bytes())?;
-    Ok(file)
-}
-
-// The number and the line by which the file is refused, if it is.
-fn refusal(rt: &HostRuntime, file: &[u8], places: usize) -> Option<(u8, usize)> {
-    match read(rt.alloc(), file, places) {
-        Ok(_) => None,
-        Err(fault) => fault.refusal(),
-    }
+) -> Result<String, AllocError> {
+    let parts = part.repeat(heap, times)?;
+    format!(in heap; "{front}{parts}{back}")
 }
 
 #[test]
@@ -35,21 +23,21 @@ fn a_file_has_at_most_16384_bytes(rt: HostRuntime) -> Result<(), Fail> {
     // 8 bytes of the first line, 2 of the remark and 4 of the last line
     let full = repeated(rt.alloc(), "SALE 94\n*", "x", MAX_BYTES - 14, "\nEND\n")?;
     assert_eq!(rt; full.len(), 16_384);
-    assert_eq!(rt; refusal(&rt, full.as_slice(), 0), None);
+    assert_eq!(rt; refusal(&rt, full.as_str(), 0), None);
     let over = repeated(rt.alloc(), "SALE 94\n*", "x", MAX_BYTES - 13, "\nEND\n")?;
     assert_eq!(rt; over.len(), 16_385);
-    assert_eq!(rt; refusal(&rt, over.as_slice(), 0), Some((1, 0)));
+    assert_eq!(rt; refusal(&rt, over.as_str(), 0), Some((1, 0)));
     // length comes first, whatever the file says
     let wrong = repeated(rt.alloc(), "", "x", MAX_BYTES + 1, "")?;
-    assert_eq!(rt; refusal(&rt, wrong.as_slice(), 0), Some((1, 0)));
+    assert_eq!(rt; refusal(&rt, wrong.as_str(), 0), Some((1, 0)));
     Ok(())
 }
 
 #[test]
 fn a_sale_has_at_most_256_packages(rt: HostRuntime) -> Result<(), Fail> {
     let full = repeated(rt.alloc(), "SALE 94\n", "G\nL\nE\n", MAX_PACKAGES, "END\n")?;
-    assert_eq!(rt; read(rt.alloc(), full.as_slice(), 256)?.packages.len(), 256);
-    assert_eq!(rt; refusal(&rt, full.as_slice(), 255), Some((22, 767)));
+    assert_eq!(rt; read(rt.alloc(), full.as_bytes(), 256)?.packages.len(), 256);
+    assert_eq!(rt; refusal(&rt, full.as_str(), 255), Some((22, 767)));
     let over = repeated(
         rt.alloc(),
         "SALE 94\n",
@@ -57,20 +45,17 @@ fn a_sale_has_at_most_256_packages(rt: HostRuntime) -> Result<(), Fail> {
         MAX_PACKAGES + 1,
         "END\n",
     )?;
-    assert_eq!(rt; refusal(&rt, over.as_slice(), 256), Some((22, 770)));
-    assert_eq!(rt; refusal(&rt, over.as_slice(), 1000), Some((22, 770)));
+    assert_eq!(rt; refusal(&rt, over.as_str(), 256), Some((22, 770)));
+    assert_eq!(rt; refusal(&rt, over.as_str(), 1000), Some((22, 770)));
     Ok(())
 }
 
 #[test]
 fn at_most_256_packages_are_open_at_a_time(rt: HostRuntime) -> Result<(), Fail> {
-    let mut deep = repeated(rt.alloc(), "SALE 94\n", "G\nL\n", MAX_PACKAGES, "")?;
-    assert_eq!(rt; refusal(&rt, deep.as_slice(), 256), Some((9, 514)));
-    for _ in 0..MAX_PACKAGES {
-        deep.extend_from_slice(b"E\n")?;
-    }
-    deep.extend_from_slice(b"END\n")?;
-    assert_eq!(rt; read(rt.alloc(), deep.as_slice(), 256)?.packages.len(), 256);
+    let open = repeated(rt.alloc(), "SALE 94\n", "G\nL\n", MAX_PACKAGES, "")?;
+    assert_eq!(rt; refusal(&rt, open.as_str(), 256), Some((9, 514)));
+    let deep = repeated(rt.alloc(), open.as_str(), "E\n", MAX_PACKAGES, "END\n")?;
+    assert_eq!(rt; read(rt.alloc(), deep.as_bytes(), 256)?.packages.len(), 256);
     Ok(())
 }
 
@@ -78,11 +63,11 @@ fn at_most_256_packages_are_open_at_a_time(rt: HostRuntime) -> Result<(), Fail> 
 fn a_sale_has_at_most_512_bids(rt: HostRuntime) -> Result<(), Fail> {
     let front = "SALE 94\nG\nL\n";
     let full = repeated(rt.alloc(), front, "B 1 1\n", MAX_BIDS, "E\nEND\n")?;
-    assert_eq!(rt; read(rt.alloc(), full.as_slice(), 1)?.bids.len(), 512);
+    assert_eq!(rt; read(rt.alloc(), full.as_bytes(), 1)?.bids.len(), 512);
     let over = repeated(rt.alloc(), front, "B 1 1\n", MAX_BIDS + 1, "E\nEND\n")?;
-    assert_eq!(rt; refusal(&rt, over.as_slice(), 1), Some((23, 516)));
+    assert_eq!(rt; refusal(&rt, over.as_str(), 1), Some((23, 516)));
     // a price beyond its limit is found before the bid is one too many
     let priced = repeated(rt.alloc(), front, "B 1 1\n", MAX_BIDS, "B 1 0\nE\nEND\n")?;
-    assert_eq!(rt; refusal(&rt, priced.as_slice(), 1), Some((4, 516)));
+    assert_eq!(rt; refusal(&rt, priced.as_str(), 1), Some((4, 516)));
     Ok(())
 }

@@ -4,6 +4,13 @@ use salefile::fault::{Fault, ReadFault};
 use salefile::read::read;
 use std::test::Fail;
 
+// The number and the line by which the file is refused in a sale with so many package places, if it is.
+pub(crate) fn refusal(rt: &HostRuntime, file: &str, places: usize) -> Option<(u8, usize)> {
+    read(rt.alloc(), file.as_bytes(), places)
+        .err()
+        .and_then(ReadFault::refusal)
+}
+
 // a file, the number of its refusal and the line
 const REFUSED: [(&str, u8, usize); 78] = [
     // no first line
@@ -104,12 +111,11 @@ const REFUSED: [(&str, u8, usize); 78] = [
 #[test]
 fn files_are_refused_at_their_first_fault(rt: HostRuntime) -> Result<(), Fail> {
     for (file, number, line) in REFUSED {
-        match read(rt.alloc(), file.as_bytes(), MAX_PACKAGES) {
-            Ok(_) => return Err(Fail::new(file)),
-            Err(fault) => {
-                assert!(rt; fault.refusal() == Some((number, line)), "{}", file);
-            }
-        }
+        assert!(rt;
+            refusal(&rt, file, MAX_PACKAGES) == Some((number, line)),
+            "{}",
+            file
+        );
     }
     Ok(())
 }
@@ -118,10 +124,8 @@ fn files_are_refused_at_their_first_fault(rt: HostRuntime) -> Result<(), Fail> {
 fn too_little_space_is_refused_at_its_line(rt: HostRuntime) -> Result<(), Fail> {
     let file = b"SALE 94\nG\nL\nE\nG\nL\nE\nG\nL\nE\nEND\n";
     for (places, line) in [(0, 2), (1, 5), (2, 8)] {
-        let Err(fault) = read(rt.alloc(), file, places) else {
-            return Err(Fail::new("accepted"));
-        };
-        assert!(rt; fault == ReadFault::File(Fault::NoSpace { line }));
+        let refused = read(rt.alloc(), file, places);
+        assert!(rt; refused == Err(ReadFault::File(Fault::NoSpace { line })));
     }
     assert!(rt; read(rt.alloc(), file, 3).is_ok());
     Ok(())

@@ -1,78 +1,85 @@
 -- Lists of bytes taken apart.
-use Rattle.std.proofs.Common.{◌≡◌, ℕ, suc, ◌+◌, ◌-◌, ◌<◌, ◌≤◌, List, [], ◌∷◌, ◌++◌, length, get_or, take, drop, sym, refl, ap, ◌∙◌, ⊎_elim, arith, length-append}
-use Rattle.std.proofs.lemmas.List.{take_all, take-append-drop, get_or_append_left, get_or_at, take_at, drop_at, drop-drop}
-use Rattle.std.proofs.lemmas.Bool.{cases_order}
+use Rattle.std.proofs.Common.{◌≡◌, ℕ, suc, ◌+◌, ◌-◌, ◌<◌, ◌≤◌, List, [], ◌∷◌, ◌++◌, length, get_or, take, drop, position, ◌==◌, nat_lt, cond, Some, None, sym, refl, ap, ◌∙◌, ⊎_elim, arith, length-append, length-drop}
+use Rattle.std.proofs.lemmas.List.{take_all, take-append-drop, get_or_append_left, get_or_at, take_at, drop_at, drop-drop, drop_more, length-take-le}
+use Rattle.std.proofs.lemmas.List.Sums.{position_or_len_is, fails_before_first}
+use Rattle.std.proofs.lemmas.List.Quantifiers.{position-Some}
+use Rattle.std.specs.List.{position_or_len}
+use Rattle.std.proofs.lemmas.Bool.{ne_eqb, eq-eqb, eqb-true, eqb-false, cond-true, lt-ltb, ltb-false, cases_Bool}
 use Rattle.lines.specs.Kinds.{Numeral, Spells, bid}
 
--- the first byte, and the rest as a slice pattern has it
-pub first_rest : (s : List ℕ) (a : ℕ) → 0 < a → get_or s 0 0 ≡ a → s ≡ a ∷ take (length s - 1) (drop 1 s)
-first_rest [] a h e = absurd (omega arith)
-first_rest (x ∷ s) a h e = let t : take (suc (length s) - 1) s ≡ s = take_all _ s (omega arith) in cc
-
-empty : (l : List ℕ) → length l ≡ 0 → l ≡ []
-empty [] e = refl
-empty (x ∷ l) e = absurd (omega arith)
-
--- a text of one letter
-pub alone : (s : List ℕ) (a : ℕ) → 0 < a → get_or s 0 0 ≡ a → length (take (length s - 1) (drop 1 s)) ≡ 0 → s ≡ a ∷ []
-alone s a h e z = first_rest s a h e ∙ ap (λ l. a ∷ l) (empty _ z)
-
-pub first_two : (s : List ℕ) (a b : ℕ) → 0 < b → get_or s 0 0 ≡ a → get_or s 1 0 ≡ b → s ≡ a ∷ b ∷ take (length s - 2) (drop 2 s)
+-- the first two bytes, and the rest as a slice pattern has it
+first_two : (s : List ℕ) (a b : ℕ) → 0 < b → get_or s 0 0 ≡ a → get_or s 1 0 ≡ b → s ≡ a ∷ b ∷ take (length s - 2) (drop 2 s)
 first_two [] a b h e f = absurd (omega arith)
 first_two (x ∷ []) a b h e f = absurd (omega arith)
 first_two (x ∷ y ∷ s) a b h e f = let t : take (suc (suc (length s)) - 2) s ≡ s = take_all _ s (omega arith) in cc
 
--- the first x of a text b, x, p with no x in b stands after b
-pub cut : (s b p : List ℕ) (x n : ℕ) → s ≡ b ++ (x ∷ p) → ((k : ℕ) → k < length b → get_or b k 0 ≡ x → ⊥) → n ≤ length s → ((k : ℕ) → k < n → get_or s k 0 ≡ x → ⊥) → (n < length s → get_or s n 0 ≡ x) → n ≡ length b
-cut s b p x n e apart within before found =
+-- in a text b, x, p with no x in b the first x stands after b
+pub first_at : (s b p : List ℕ) (x : ℕ) → s ≡ b ++ (x ∷ p) → ((k : ℕ) → k < length b → get_or b k 0 ≡ x → ⊥) → position (λ y. y == x) s ≡ Some (length b)
+first_at s b p x e none =
     let long : length s ≡ length b + suc (length p) = ap length e ∙ length-append b (x ∷ p) in
-    ⊎_elim (λ same. same)
-    (⊎_elim
-    (λ lt. absurd (apart n lt (sym (get_or_append_left b (x ∷ p) 0 n lt) ∙ ap (λ l. get_or l n 0) (sym e) ∙ found (omega arith))))
-    (λ gt. absurd (before (length b) gt (ap (λ l. get_or l (length b) 0) e ∙ get_or_at b x p 0 (length b) refl))))
-    (cases_order n (length b))
+    let at : position_or_len (λ y. y == x) s ≡ length b =
+    position_or_len_is (λ y. y == x) s (length b) 0 (omega arith)
+    (λ k lt. ne_eqb _ x (λ z. none k lt (sym (get_or_append_left b (x ∷ p) 0 k lt) ∙ ap (λ l. get_or l k 0) (sym e) ∙ z)))
+    (λ lt. eq-eqb _ x (ap (λ l. get_or l (length b) 0) e ∙ get_or_at b x p 0 (length b) refl)) in
+    ap (λ n. cond (nat_lt n (length s)) (Some n) None) at ∙ cond-true _ _ _ (lt-ltb (length b) (length s) (omega arith))
+
+pub first_found : (s : List ℕ) (x n : ℕ) → position (λ y. y == x) s ≡ Some n → (n < length s) × (get_or s n 0 ≡ x) × ((k : ℕ) → k < n → get_or s k 0 ≡ x → ⊥)
+first_found s x n e =
+    let h = position-Some (λ y. y == x) s n 0 e in
+    (h.0, eqb-true _ x h.1, λ k lt. eqb-false _ x (h.2 k lt))
+
+pub none_found : (s : List ℕ) (x : ℕ) → position (λ y. y == x) s ≡ None → (k : ℕ) → k < length s → get_or s k 0 ≡ x → ⊥
+none_found s x e k lt is =
+    let n : ℕ = position_or_len (λ y. y == x) s in
+    ⊎_elim
+    (λ t. let some : position (λ y. y == x) s ≡ Some n = cond-true _ _ _ t in cc)
+    (λ f. let past : length s ≤ n = ltb-false n (length s) f in eqb-false _ x (fails_before_first (λ y. y == x) s k 0 (omega arith)) is)
+    (cases_Bool (nat_lt n (length s)))
 
 -- what stands after the two bytes of a text
-pub after_two : (t s : List ℕ) (a b : ℕ) → t ≡ a ∷ b ∷ s → take (length t - 2) (drop 2 t) ≡ s
+after_two : (t s : List ℕ) (a b : ℕ) → t ≡ a ∷ b ∷ s → take (length t - 2) (drop 2 t) ≡ s
 after_two t s a b e = ap (λ l. take (length l - 2) (drop 2 l)) e ∙ take_all _ s (omega arith)
-
-pub after_one : (t s : List ℕ) (a : ℕ) → t ≡ a ∷ s → take (length t - 1) (drop 1 t) ≡ s
-after_one t s a e = ap (λ l. take (length l - 1) (drop 1 l)) e ∙ take_all _ s (omega arith)
 
 -- a numeral has no space
 pub no_space : (ds : List ℕ) → Numeral ds → (k : ℕ) → k < length ds → get_or ds k 0 ≡ 32 → ⊥
 no_space ds h k lt e = omega (arith, h.digits k lt)
 
--- a text with its first space at n
-pub record Spaced (s : List ℕ) (n : ℕ) : Type 0 where
-  pub within : n ≤ length s
-  pub before : (k : ℕ) → k < n → get_or s k 0 ≡ 32 → ⊥
-  pub found : n < length s → get_or s n 0 ≡ 32
+-- what follows the two bytes `B ` of a bid
+abbrev pub numbers : List ℕ → List ℕ
+numbers t = take (length t - 2) (drop 2 t)
 
--- the numbers of a bid are cut at their first space
-module _ (t : List ℕ) (n : ℕ) (spaced : Spaced (take (length t - 2) (drop 2 t)) n) (b p : List ℕ) (h : Spells t (bid b p)) where
-  whole : take (length t - 2) (drop 2 t) ≡ b ++ (32 ∷ p)
-  whole = after_two t _ 66 32 h.0
+-- its first space stands after the buyer
+pub bid_space : (t b p : List ℕ) → Spells t (bid b p) → position (λ y. y == 32) (numbers t) ≡ Some (length b)
+bid_space t b p h = first_at (numbers t) b p 32 (after_two t _ 66 32 h.0) (no_space b h.1.0)
 
-  place : n ≡ length b
-  place = cut _ b p 32 n whole (no_space b h.1.0) spaced.within spaced.before spaced.found
+-- the two parts around the first space, as the slices have them
+module _ (t : List ℕ) (n : ℕ) (at : position (λ y. y == 32) (numbers t) ≡ Some n) where
+  abbrev pub front : List ℕ
+  front = take n (numbers t)
 
-  pub bid_front : take n (take (length t - 2) (drop 2 t)) ≡ b
-  bid_front = ap (take n) whole ∙ take_at b (32 ∷ p) n (sym place)
+  abbrev pub back : List ℕ
+  back = take (length (numbers t) - (n + 1)) (drop (n + 1) (numbers t))
 
-  pub bid_back : drop n (take (length t - 2) (drop 2 t)) ≡ 32 ∷ p
-  bid_back = ap (drop n) whole ∙ drop_at b (32 ∷ p) n (sym place)
+  back_is : back ≡ drop (n + 1) (numbers t)
+  back_is = take_all _ _ (omega (arith, length-drop (n + 1) (numbers t)))
 
--- the parts of a text make a bid's line
-pub bid_whole : (t b r p : List ℕ) (n : ℕ) → get_or t 0 0 ≡ 66 → get_or t 1 0 ≡ 32 → b ≡ take n (take (length t - 2) (drop 2 t)) → r ≡ drop n (take (length t - 2) (drop 2 t)) → get_or r 0 0 ≡ 32 → p ≡ take (length r - 1) (drop 1 r) → t ≡ 66 ∷ 32 ∷ (b ++ (32 ∷ p))
-bid_whole t b r p n e f front back g last =
-    let two = first_two t 66 32 (omega arith) e f in
-    let one = first_rest r 32 (omega arith) g in
-    let s : List ℕ = take (length t - 2) (drop 2 t) in
-    let halves : take n s ++ drop n s ≡ s = take-append-drop n s in
-    let rest : drop n s ≡ 32 ∷ p = sym back ∙ one ∙ ap (λ l. 32 ∷ l) (sym last) in
-    let joins : b ++ (32 ∷ p) ≡ s = (λ i. front i ++ (sym rest) i) ∙ halves in
-    two ∙ ap (λ l. 66 ∷ 32 ∷ l) (sym joins)
+  pub bid_parts : (b p : List ℕ) → Spells t (bid b p) → (front ≡ b) × (back ≡ p)
+  bid_parts b p h =
+      let spaced = bid_space t b p h in
+      let place : n ≡ length b = cc in
+      let whole : numbers t ≡ b ++ (32 ∷ p) = after_two t _ 66 32 h.0 in
+      (ap (take n) whole ∙ take_at b (32 ∷ p) n (sym place), back_is ∙ sym (drop-drop 1 n (numbers t)) ∙ ap (λ l. drop 1 (drop n l)) whole ∙ ap (drop 1) (drop_at b (32 ∷ p) n (sym place)))
+
+  space : (n < length (numbers t)) × (get_or (numbers t) n 0 ≡ 32)
+  space = let h = first_found (numbers t) 32 n at in (h.0, h.1)
+
+  pub front_length : length front ≡ n
+  front_length = length-take-le n (numbers t) (omega (arith, space.0))
+
+  pub bid_whole : get_or t 0 0 ≡ 66 → get_or t 1 0 ≡ 32 → t ≡ 66 ∷ 32 ∷ (front ++ (32 ∷ back))
+  bid_whole e f =
+      let cut : drop n (numbers t) ≡ 32 ∷ back = drop_more (numbers t) n 0 space.0 ∙ (λ i. space.1 i ∷ sym back_is i) in
+      first_two t 66 32 (omega arith) e f ∙ ap (λ l. 66 ∷ 32 ∷ l) (sym (take-append-drop n (numbers t)) ∙ ap (λ l. front ++ l) cut)
 
 -- a part that stands after `pre` in what follows the offset at
 pub part_at : (file : List ℕ) (at n : ℕ) (pre x post : List ℕ) → length pre ≡ n → drop at file ≡ pre ++ (x ++ post) → x ≡ take (length x) (drop (at + n) file)

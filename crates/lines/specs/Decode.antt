@@ -43,13 +43,8 @@ unfoldable pub is_numeral : List ℕ → Bool
 is_numeral ds = (nat_lt 0 (length ds) && nat_le (length ds) max_digits) && (all_digits ds && (not (slice_index ds 0 == 48) || length ds == 1))
 
 unfoldable pub is_proper : Kind → Bool
-is_proper header = true
-is_proper opening = true
-is_proper closing = true
-is_proper lot = true
 is_proper (bid buyer price) = is_numeral buyer && is_numeral price
-is_proper (remark words) = true
-is_proper ending = true
+is_proper _ = true
 
 unfoldable pub kind : Row → Kind
 kind row = decoded (content row.bytes)

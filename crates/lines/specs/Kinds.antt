@@ -51,13 +51,8 @@ value (d ∷ ds) = (d - 48) * 10 ^ length ds + value ds
 
 -- the numbers in a line are numerals
 abbrev pub Proper : Kind → Type 0
-Proper header = Unit {0}
-Proper opening = Unit {0}
-Proper closing = Unit {0}
-Proper lot = Unit {0}
 Proper (bid buyer price) = Numeral buyer × Numeral price
-Proper (remark words) = Unit {0}
-Proper ending = Unit {0}
+Proper _ = Unit {0}
 
 -- these bytes are the line k
 abbrev pub Spells : List ℕ → Kind → Type 0

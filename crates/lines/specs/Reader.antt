@@ -20,7 +20,7 @@ kind_of Header = header
 kind_of Open = opening
 kind_of Close = closing
 kind_of Lot = lot
-kind_of (Bid buyer price) = bid buyer.bytes.now price.bytes.now
+kind_of (Bid buyer price) = bid buyer.part.bytes.now price.part.bytes.now
 kind_of (Remark words) = remark words.bytes.now
 kind_of End = ending
 
@@ -30,23 +30,15 @@ PartAt file at p = (p.at ≡ at) × (p.bytes.now ≡ take (length p.bytes.now) (
 
 -- the parts of a line that begins at the offset at stand where the line has them
 abbrev pub Placed : List ℕ → ℕ → Line → Type 0
-Placed file at Header = Unit {0}
-Placed file at Open = Unit {0}
-Placed file at Close = Unit {0}
-Placed file at Lot = Unit {0}
-Placed file at (Bid buyer price) = PartAt file (at + 2) buyer × PartAt file (at + 3 + length buyer.bytes.now) price
+Placed file at (Bid buyer price) = PartAt file (at + 2) buyer.part × PartAt file (at + 3 + length buyer.part.bytes.now) price.part
 Placed file at (Remark words) = PartAt file (at + 1) words
-Placed file at End = Unit {0}
+Placed file at _ = Unit {0}
 
 -- the same, of the offsets alone
 abbrev pub Stands : ℕ → Line → Type 0
-Stands at Header = Unit {0}
-Stands at Open = Unit {0}
-Stands at Close = Unit {0}
-Stands at Lot = Unit {0}
-Stands at (Bid buyer price) = (buyer.at ≡ at + 2) × (price.at ≡ at + 3 + length buyer.bytes.now)
+Stands at (Bid buyer price) = (buyer.part.at ≡ at + 2) × (price.part.at ≡ at + 3 + length buyer.part.bytes.now)
 Stands at (Remark words) = words.at ≡ at + 1
-Stands at End = Unit {0}
+Stands at _ = Unit {0}
 
 -- the answer at the row `row`, of which `number` rows stand before; it begins at `at`, and `rest` follows it
 abbrev pub Answer : List ℕ → ℕ → ℕ → Row → List Row → Result (Option Numbered) Unreadable → ℕ → Type 0

@@ -4,8 +4,10 @@
 pub mod laws;
 pub mod line;
 mod next;
+pub mod number;
 mod parse;
 pub mod reader;
 
-pub use line::{BadNumber, Line, Numbered, Part, Unreadable};
+pub use line::{Line, Numbered, Part, Unreadable};
+pub use number::{BadNumber, Number};
 pub use reader::LineReader;

@@ -4,17 +4,14 @@ ghost use Rattle.lines.specs.Rows.{rows_of, content};
 ghost use Rattle.lines.specs.Reader.{Next};
 
 use crate::line::{Numbered, Unreadable};
-use crate::parse::{parse, position};
+use crate::parse::parse;
 use crate::reader::LineReader;
 
 // The line without one byte 13 at its end.
-fn trimmed<'a>(line: &'a [u8]) -> &'a [u8]
+fn trimmed(line: &[u8]) -> &[u8]
     ensures { result.now ≡ content line.now }
 {
-    match line {
-        [front @ .., b'\r'] => front,
-        _ => line,
-    }
+    line.strip_suffix(b"\r").unwrap_or(line)
 }
 
 impl<'a> LineReader<'a> {
@@ -31,18 +28,11 @@ impl<'a> LineReader<'a> {
         }
         let number = self.number + 1;
         let unreadable = Unreadable { line: number };
-        let length = position(rest, b'\n');
         self.at = file.len();
         self.number = number;
-        if length == rest.len() {
-            return Err(unreadable);
-        }
-        match parse(trimmed(&rest[0..length]), at) {
-            Ok(line) => {
-                self.at = at + length + 1;
-                Ok(Some(Numbered { number, line }))
-            }
-            Err(_) => Err(unreadable),
-        }
+        let length = rest.iter().position(|b| *b == b'\n').ok_or(unreadable)?;
+        let line = parse(trimmed(&rest[..length]), at).map_err(|_| unreadable)?;
+        self.at = at + length + 1;
+        Ok(Some(Numbered { number, line }))
     }
 }

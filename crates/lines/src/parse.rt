@@ -1,73 +1,36 @@
 // One line, taken apart by its first letter.
-ghost use Rattle.std.specs.Prelude.{◌≡◌, ℕ, ◌+◌, ◌-◌, ◌^◌, ◌<◌, ◌≤◌, List, length, MatchResult, ◌≢◌, slice_index};
-ghost use Rattle.lines.specs.Kinds.{Kind, Numeral, Spells, bid as bidding};
+ghost use Rattle.std.specs.Prelude.{ℕ, ◌+◌, ◌^◌, ◌<◌, List, length, MatchResult};
+ghost use Rattle.lines.specs.Kinds.{Kind, Spells, bid as bidding};
 ghost use Rattle.lines.specs.Reader.{kind_of, Stands};
 
-use crate::line::{BadNumber, Line, Malformed, Part};
-
-// The most digits of a number.
-const MAX_DIGITS: usize = 10;
-
-// The part again if it is a number.
-fn numeral<'a>(part: Part<'a>) -> Result<Part<'a>, BadNumber>
-    ensures { MatchResult result (λ p. (p ≡ part.entry) × Numeral part.entry.bytes.now) (λ e. Numeral part.entry.bytes.now → ⊥) }
-{
-    let bad = BadNumber { at: part.at };
-    let bytes = part.bytes;
-    if bytes.is_empty() || bytes.len() > MAX_DIGITS {
-        return Err(bad);
-    }
-    for b in bytes {
-        if !b.is_ascii_digit() {
-            return Err(bad);
-        }
-    }
-    if bytes.len() > 1 && bytes[0] == b'0' {
-        return Err(bad);
-    }
-    Ok(part)
-}
-
-// Where the first byte b of the text stands, or the text's length where there is none.
-pub(crate) fn position(text: &[u8], b: u8) -> usize
-    ensures within { result ≤ length text.now }
-    ensures before { (k : ℕ) → k < result → slice_index text.now k ≢ b }
-    ensures found { result < length text.now → slice_index text.now result ≡ b }
-{
-    for (i, x) in text.iter().enumerate() {
-        if *x == b {
-            return i;
-        }
-    }
-    text.len()
-}
+use crate::line::{Line, Malformed, Part};
+use crate::number::Number;
 
 // A bid's line; its text begins at the offset `at`.
-fn bid<'a>(text: &'a [u8], at: usize) -> Result<Line<'a>, Malformed>
+fn bid(text: &[u8], at: usize) -> Result<Line<'_>, Malformed>
     requires { at + length text.now < 2 ^ 64 }
     ensures { MatchResult result (λ l. Spells text.now (kind_of l) × Stands at l) (λ e. (n p : List ℕ) → Spells text.now (bidding n p) → ⊥) }
 {
     let [b'B', b' ', numbers @ ..] = text else {
         return Err(Malformed::Shape);
     };
-    let n = position(numbers, b' ');
-    let (first, rest) = numbers.split_at(n);
-    let [b' ', second @ ..] = rest else {
+    let Some(space) = numbers.iter().position(|b| *b == b' ') else {
         return Err(Malformed::Shape);
     };
-    let buyer = numeral(Part {
+    let buyer = Number::try_from(Part {
         at: at + 2,
-        bytes: first,
+        bytes: &numbers[..space],
     })?;
-    let price = numeral(Part {
-        at: at + 3 + n,
-        bytes: second,
+    let price = Number::try_from(Part {
+        at: at + 3 + space,
+        bytes: &numbers[space + 1..],
     })?;
     Ok(Line::Bid { buyer, price })
 }
 
-// The line that the text is; it begins at the offset `at`.
-pub(crate) fn parse<'a>(text: &'a [u8], at: usize) -> Result<Line<'a>, Malformed>
+// The line that the text is; it begins at the offset `at`. By the rules the first line and the last are compared whole, and every
+// other line is known by its first letter.
+pub(crate) fn parse(text: &[u8], at: usize) -> Result<Line<'_>, Malformed>
     requires { at + length text.now < 2 ^ 64 }
     ensures { MatchResult result (λ l. Spells text.now (kind_of l) × Stands at l) (λ e. (k : Kind) → Spells text.now k → ⊥) }
 {

@@ -1,35 +1,10 @@
 -- Which check a line fails first.
-use Rattle.std.proofs.Common.{◌≡◌, ℕ, ◌+◌, ◌<◌, ◌≤◌, not, T, eqb, List, [], ◌∷◌, ◌++◌, length, sym, refl, ap, ◌∙◌, subst, inl, inr, ⊎_elim, arith}
-use Rattle.std.proofs.lemmas.Bool.{eq-eqb}
+use Rattle.std.proofs.Common.{◌≡◌, ℕ, ◌+◌, ◌<◌, ◌≤◌, List, [], ◌∷◌, ◌++◌, length, sym, refl, ap, ◌∙◌, subst, inl, inr, ⊎_elim, arith}
 use Rattle.lines.specs.Kinds.{Kind, header, opening, closing, lot, bid, remark, ending, value}
 use Rattle.bids.specs.Limits.{max_bids}
 use Rattle.salefile.specs.Blocks.{lots, opens, bids, Innermost, NoneOpen}
 use Rattle.salefile.specs.Files.{Item, over, illegible, line, Check, after_end, bad_line, none_open, out_of_range, no_space, too_many_bids, no_lots, same_lots, unclosed, no_end, order, Ended, InRange, Repeated, Fails, First, Clear, Rejects}
 use Rattle.salefile.proofs.Nesting.{innermost_one, no_cons}
-
--- sights apart
-
-abbrev tag : Item → ℕ
-tag over = 0
-tag illegible = 1
-tag (line header) = 2
-tag (line opening) = 3
-tag (line closing) = 4
-tag (line lot) = 5
-tag (line (bid n p)) = 6
-tag (line (remark w)) = 7
-tag (line ending) = 8
-
-abbrev is_line : Item → ℕ
-is_line over = 0
-is_line illegible = 0
-is_line (line k) = 1
-
-pub apart : {x y : Item} → T (not (eqb (tag x) (tag y))) → x ≡ y → ⊥
-apart {x} {y} t e = subst (λ b. T (not b)) (eq-eqb (tag x) (tag y) (ap tag e)) t
-
-pub line_not_over : (k : Kind) → line k ≡ over → ⊥
-line_not_over k e = let m = ap is_line e in omega arith
 
 -- the header as the first line
 pub clear_first : (space : ℕ) → Clear (Fails space [] (line header)) order
@@ -38,10 +13,10 @@ clear_first space = (
   (
     (λ q w. w.1 refl),
     (
-      (λ q w. ⊎_elim (apart tt) (λ z. z.1 refl) w.0),
+      (λ q w. ⊎_elim (λ e. cc) (λ z. z.1 refl) w.0),
       (
-        (λ q f. ⊎_elim (apart tt) (λ g. apart tt g.2) f.0),
-        ((λ q f. apart tt f.2), ((λ q f. apart tt f.0), ((λ q f. apart tt f.0.2), ((λ q f. apart tt f.0), ((λ q f. apart tt f.0), ((λ q f. apart tt f.0), ((λ q f. apart tt f.0), tt))))))),
+        (λ q f. ⊎_elim (λ e. cc) (λ g. cc) f.0),
+        ((λ q f. cc), ((λ q f. cc), ((λ q f. cc), ((λ q f. cc), ((λ q f. cc), ((λ q f. cc), ((λ q f. cc), tt))))))),
       ),
     ),
   ),
@@ -65,8 +40,8 @@ module _ (space : ℕ) (ks : List Kind) (begun : ks ≡ [] → ⊥) (going : End
     (
       (λ q w. begun w.0),
       (
-        (λ q w. ⊎_elim (λ z. let m = ap is_line z in omega arith) (λ z. other z.0) w.0),
-        (a, (b, (c, (d, (e, (f, (g, ((λ q w. let m = ap is_line w.0 in omega arith), tt)))))))),
+        (λ q w. ⊎_elim (λ z. cc) (λ z. other z.0) w.0),
+        (a, (b, (c, (d, (e, (f, (g, ((λ q w. cc), tt)))))))),
       ),
     ),
   )
@@ -78,66 +53,66 @@ module _ (space : ℕ) (ks : List Kind) (begun : ks ≡ [] → ⊥) (going : End
         (λ q w. going w.0),
         inr (
           (λ q w. begun w.0),
-          inr ((λ q w. ⊎_elim (λ z. let m = ap is_line z in omega arith) (λ z. other z.0) w.0), r),
+          inr ((λ q w. ⊎_elim (λ z. cc) (λ z. other z.0) w.0), r),
         ),
       )
 
   pub clear_remark : (w : List ℕ) → Clear (Fails space ks (line (remark w))) order
   clear_remark w =
-      clear_line (remark w) (apart tt) (λ q f. ⊎_elim (apart tt) (λ g. apart tt g.2) f.0) (λ q f. apart tt f.2) (λ q f. apart tt f.0) (λ q f. apart tt f.0.2) (λ q f. apart tt f.0) (λ q f. apart tt f.0) (λ q f. apart tt f.0)
+      clear_line (remark w) (λ e. cc) (λ q f. ⊎_elim (λ e. cc) (λ g. cc) f.0) (λ q f. cc) (λ q f. cc) (λ q f. cc) (λ q f. cc) (λ q f. cc) (λ q f. cc)
 
   pub clear_lot : Clear (Fails space ks (line lot)) order
   clear_lot =
-      clear_line lot (apart tt) (λ q f. ⊎_elim (apart tt) (λ g. apart tt g.2) f.0) (λ q f. apart tt f.2) (λ q f. apart tt f.0) (λ q f. apart tt f.0.2) (λ q f. apart tt f.0) (λ q f. apart tt f.0) (λ q f. apart tt f.0)
+      clear_line lot (λ e. cc) (λ q f. ⊎_elim (λ e. cc) (λ g. cc) f.0) (λ q f. cc) (λ q f. cc) (λ q f. cc) (λ q f. cc) (λ q f. cc) (λ q f. cc)
 
   pub clear_open : opens ks < space → Clear (Fails space ks (line opening)) order
   clear_open room =
-      clear_line opening (apart tt) (λ q f. ⊎_elim (apart tt) (λ g. apart tt g.2) f.0) (λ q f. apart tt f.2) (λ q f. omega (arith, f.1)) (λ q f. apart tt f.0.2) (λ q f. apart tt f.0) (λ q f. apart tt f.0) (λ q f. apart tt f.0)
+      clear_line opening (λ e. cc) (λ q f. ⊎_elim (λ e. cc) (λ g. cc) f.0) (λ q f. cc) (λ q f. omega (arith, f.1)) (λ q f. cc) (λ q f. cc) (λ q f. cc) (λ q f. cc)
 
   pub clear_close : (b i : List Kind) → Innermost ks b i → 0 < lots i → (Repeated i → ⊥) → Clear (Fails space ks (line closing)) order
   clear_close b i inn some new =
-      clear_line closing (apart tt) (λ q f. f.1 b i inn) (λ q f. apart tt f.2) (λ q f. apart tt f.0) (λ q f. apart tt f.0.2)
+      clear_line closing (λ e. cc) (λ q f. f.1 b i inn) (λ q f. cc) (λ q f. cc) (λ q f. cc)
       (λ q f. let same = innermost_one b i f.1.0 f.1.1 (sym inn.0 ∙ f.1.2.0) inn.1 f.1.2.1 in omega (arith, some, ap lots same.1, f.1.3))
       (λ q f. let same = innermost_one b i f.1.0 f.1.1 (sym inn.0 ∙ f.1.2.0) inn.1 f.1.2.1 in new (subst Repeated (sym same.1) f.1.3))
-      (λ q f. apart tt f.0)
+      (λ q f. cc)
 
   pub clear_bid : (n m : List ℕ) (b i : List Kind) → Innermost ks b i → InRange (value n) (value m) → bids ks < max_bids → Clear (Fails space ks (line (bid n m))) order
   clear_bid n m b i inn within room =
-      clear_line (bid n m) (apart tt) (λ q f. f.1 b i inn)
+      clear_line (bid n m) (λ e. cc) (λ q f. f.1 b i inn)
       (λ q f.
       let buyers : n ≡ f.0 = cc f.2 in
       let prices : m ≡ f.1 = cc f.2 in
       f.3 (subst (λ x. InRange (value x) (value f.1)) buyers (subst (λ x. InRange (value n) (value x)) prices within)))
-      (λ q f. apart tt f.0) (λ q f. omega (arith, room, f.1)) (λ q f. apart tt f.0) (λ q f. apart tt f.0) (λ q f. apart tt f.0)
+      (λ q f. cc) (λ q f. omega (arith, room, f.1)) (λ q f. cc) (λ q f. cc) (λ q f. cc)
 
   pub clear_end : NoneOpen ks → Clear (Fails space ks (line ending)) order
   clear_end shut =
-      clear_line ending (apart tt) (λ q f. ⊎_elim (apart tt) (λ g. apart tt g.2) f.0) (λ q f. apart tt f.2) (λ q f. apart tt f.0) (λ q f. apart tt f.0.2) (λ q f. apart tt f.0) (λ q f. apart tt f.0) (λ q f. shut f.1.0 f.1.1 f.1.2)
+      clear_line ending (λ e. cc) (λ q f. ⊎_elim (λ e. cc) (λ g. cc) f.0) (λ q f. cc) (λ q f. cc) (λ q f. cc) (λ q f. cc) (λ q f. cc) (λ q f. shut f.1.0 f.1.1 f.1.2)
 
   -- refusals
 
   pub reject_open : (p : ℕ) → p ≡ length ks + 1 → space ≤ opens ks → Rejects space ks (line opening) 22 p
   reject_open p e full = (
     no_space,
-    past opening no_space p (apart tt)
-        (inr ((λ q f. ⊎_elim (apart tt) (λ g. apart tt g.2) f.0), inr ((λ q f. apart tt f.2), inl (refl, (refl, full, e))))),
+    past opening no_space p (λ e. cc)
+        (inr ((λ q f. ⊎_elim (λ e. cc) (λ g. cc) f.0), inr ((λ q f. cc), inl (refl, (refl, full, e))))),
     refl,
   )
 
   pub reject_close_none : (p : ℕ) → p ≡ length ks + 1 → NoneOpen ks → Rejects space ks (line closing) 5 p
-  reject_close_none p e shut = (none_open, past closing none_open p (apart tt) (inl (refl, (inl refl, shut, e))), refl)
+  reject_close_none p e shut = (none_open, past closing none_open p (λ e. cc) (inl (refl, (inl refl, shut, e))), refl)
 
   pub reject_bid_none : (n m : List ℕ) (p : ℕ) → p ≡ length ks + 1 → NoneOpen ks → Rejects space ks (line (bid n m)) 5 p
-  reject_bid_none n m p e shut = (none_open, past (bid n m) none_open p (apart tt) (inl (refl, (inr (n, m, refl), shut, e))), refl)
+  reject_bid_none n m p e shut = (none_open, past (bid n m) none_open p (λ e. cc) (inl (refl, (inr (n, m, refl), shut, e))), refl)
 
   pub reject_range : (n m : List ℕ) (p : ℕ) (b i : List Kind) → p ≡ length ks + 1 → Innermost ks b i → (InRange (value n) (value m) → ⊥) → Rejects space ks (line (bid n m)) 4 p
   reject_range n m p b i e inn bad =
-      (out_of_range, past (bid n m) out_of_range p (apart tt) (inr ((λ q f. f.1 b i inn), inl (refl, (n, m, refl, bad, e)))), refl)
+      (out_of_range, past (bid n m) out_of_range p (λ e. cc) (inr ((λ q f. f.1 b i inn), inl (refl, (n, m, refl, bad, e)))), refl)
 
   pub reject_bids : (n m : List ℕ) (p : ℕ) (b i : List Kind) → p ≡ length ks + 1 → Innermost ks b i → InRange (value n) (value m) → max_bids ≤ bids ks → Rejects space ks (line (bid n m)) 23 p
   reject_bids n m p b i e inn within full = (
     too_many_bids,
-    past (bid n m) too_many_bids p (apart tt)
+    past (bid n m) too_many_bids p (λ e. cc)
         (inr (
           (λ q f. f.1 b i inn),
           inr (
@@ -145,7 +120,7 @@ module _ (space : ℕ) (ks : List Kind) (begun : ks ≡ [] → ⊥) (going : End
                 let buyers : n ≡ f.0 = cc f.2 in
                 let prices : m ≡ f.1 = cc f.2 in
                 f.3 (subst (λ x. InRange (value x) (value f.1)) buyers (subst (λ x. InRange (value n) (value x)) prices within))),
-            inr ((λ q f. apart tt f.0), inl (refl, ((n, m, refl), full, e))),
+            inr ((λ q f. cc), inl (refl, ((n, m, refl), full, e))),
           ),
         )),
     refl,
@@ -154,23 +129,23 @@ module _ (space : ℕ) (ks : List Kind) (begun : ks ≡ [] → ⊥) (going : End
   pub reject_no_lots : (p : ℕ) (b i : List Kind) → p ≡ length ks + 1 → Innermost ks b i → lots i ≡ 0 → Rejects space ks (line closing) 6 p
   reject_no_lots p b i e inn zero = (
     no_lots,
-    past closing no_lots p (apart tt)
-        (inr ((λ q f. f.1 b i inn), inr ((λ q f. apart tt f.2), inr ((λ q f. apart tt f.0), inr ((λ q f. apart tt f.0.2), inl (refl, (refl, (b, i, inn, zero), e))))))),
+    past closing no_lots p (λ e. cc)
+        (inr ((λ q f. f.1 b i inn), inr ((λ q f. cc), inr ((λ q f. cc), inr ((λ q f. cc), inl (refl, (refl, (b, i, inn, zero), e))))))),
     refl,
   )
 
   pub reject_same_lots : (p : ℕ) (b i : List Kind) → p ≡ length ks + 1 → Innermost ks b i → 0 < lots i → Repeated i → Rejects space ks (line closing) 7 p
   reject_same_lots p b i e inn some again = (
     same_lots,
-    past closing same_lots p (apart tt)
+    past closing same_lots p (λ e. cc)
         (inr (
           (λ q f. f.1 b i inn),
           inr (
-            (λ q f. apart tt f.2),
+            (λ q f. cc),
             inr (
-              (λ q f. apart tt f.0),
+              (λ q f. cc),
               inr (
-                (λ q f. apart tt f.0.2),
+                (λ q f. cc),
                 inr (
                   (λ q f. let same = innermost_one b i f.1.0 f.1.1 (sym inn.0 ∙ f.1.2.0) inn.1 f.1.2.1 in omega (arith, some, ap lots same.1, f.1.3)),
                   inl (refl, (refl, (b, i, inn, again), e)),
@@ -185,8 +160,8 @@ module _ (space : ℕ) (ks : List Kind) (begun : ks ≡ [] → ⊥) (going : End
   pub reject_end : (p : ℕ) (b i : List Kind) → p ≡ length b + 1 → Innermost ks b i → Rejects space ks (line ending) 8 p
   reject_end p b i e inn = (
     unclosed,
-    past ending unclosed p (apart tt)
-        (inr ((λ q f. ⊎_elim (apart tt) (λ g. apart tt g.2) f.0), inr ((λ q f. apart tt f.2), inr ((λ q f. apart tt f.0), inr ((λ q f. apart tt f.0.2), inr ((λ q f. apart tt f.0), inr ((λ q f. apart tt f.0), inl (refl, (refl, (b, i, inn, e)))))))))),
+    past ending unclosed p (λ e. cc)
+        (inr ((λ q f. ⊎_elim (λ e. cc) (λ g. cc) f.0), inr ((λ q f. cc), inr ((λ q f. cc), inr ((λ q f. cc), inr ((λ q f. cc), inr ((λ q f. cc), inl (refl, (refl, (b, i, inn, e)))))))))),
     refl,
   )
 
@@ -206,8 +181,8 @@ module _ (space : ℕ) (ks : List Kind) (begun : ks ≡ [] → ⊥) (going : End
       inr (
         (λ q w. begun w.0),
         inr (
-          (λ q w. ⊎_elim (apart tt) (λ z. apart tt z.0) w.0),
-          inr ((λ q f. ⊎_elim (apart tt) (λ g. apart tt g.2) f.0), inr ((λ q f. apart tt f.2), inr ((λ q f. apart tt f.0), inr ((λ q f. apart tt f.0.2), inr ((λ q f. apart tt f.0), inr ((λ q f. apart tt f.0), inr ((λ q f. apart tt f.0), inl (refl, (refl, going, e))))))))),
+          (λ q w. ⊎_elim (λ e. cc) (λ z. cc) w.0),
+          inr ((λ q f. ⊎_elim (λ e. cc) (λ g. cc) f.0), inr ((λ q f. cc), inr ((λ q f. cc), inr ((λ q f. cc), inr ((λ q f. cc), inr ((λ q f. cc), inr ((λ q f. cc), inl (refl, (refl, going, e))))))))),
         ),
       ),
     ),
@@ -222,10 +197,10 @@ clear_over space ks = (
   (
     (λ q w. no_cons ks ending [] (sym w.0)),
     (
-      (λ q w. ⊎_elim (apart tt) (λ z. apart tt z.0) w.0),
+      (λ q w. ⊎_elim (λ e. cc) (λ z. cc) w.0),
       (
-        (λ q f. ⊎_elim (apart tt) (λ g. apart tt g.2) f.0),
-        ((λ q f. apart tt f.2), ((λ q f. apart tt f.0), ((λ q f. apart tt f.0.2), ((λ q f. apart tt f.0), ((λ q f. apart tt f.0), ((λ q f. apart tt f.0), ((λ q f. f.1 (ks, refl)), tt))))))),
+        (λ q f. ⊎_elim (λ e. cc) (λ g. cc) f.0),
+        ((λ q f. cc), ((λ q f. cc), ((λ q f. cc), ((λ q f. cc), ((λ q f. cc), ((λ q f. cc), ((λ q f. f.1 (ks, refl)), tt))))))),
       ),
     ),
   ),

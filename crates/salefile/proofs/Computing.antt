@@ -1,7 +1,8 @@
 -- The computed reading of a file is the one that the rules define.
 use Rattle.std.proofs.Common.{◌≡◌, ℕ, zero, suc, ◌+◌, ◌<◌, ◌≤◌, Bool, true, false, cond, ◌&&◌, eqb, ltb, leb, List, [], ◌∷◌, ◌++◌, reverse, length, get_or, drop, set, Ok, Err, Result, sym, refl, ap, ◌∙◌, subst, inl, inr, ⊎_elim, arith, length-append}
 use mathlib.Core.List.{reverse-cons}
-use Rattle.std.proofs.lemmas.Bool.{eq-eqb, eqb-true, leb-true, leb-false, ltb-true, ltb-false, and_from, and_parts, or_cases, or_left, or_right, true≢false}
+use Rattle.std.proofs.lemmas.Bool.Decides.{nat_tests}
+use Rattle.std.proofs.lemmas.Bool.{leb-true, leb-false, ltb-true, ltb-false, or_cases}
 use Rattle.packages.specs.declared.run.Run.{Run}
 use Rattle.lines.specs.Kinds.{Kind, header, opening, closing, lot, bid, remark, ending, value}
 use Rattle.lines.specs.Rows.{Row, rows_of, Tells}
@@ -15,27 +16,20 @@ use Rattle.salefile.specs.Blocks.{NoneOpen}
 use Rattle.salefile.specs.Files.{Item, over, illegible, line, Begins, FirstIs, BeginsWith, Sound, Clear, Fails, order, Rejects, InRange, Refused}
 use Rattle.salefile.specs.Draft.{Kept}
 use Rattle.salefile.specs.Reading.{Reading, says, refuses, State, some_is, close, offer, add, finish, ends, further, walk, begins, from_first, reading, Reads, Exact}
-use Rattle.salefile.proofs.Checks.{apart, clear_remark, clear_lot, clear_open, clear_close, clear_bid, clear_end, clear_over, reject_open, reject_close_none, reject_bid_none, reject_range, reject_bids, reject_no_lots, reject_same_lots, reject_end, reject_header, reject_illegible, reject_over, reject_after, line_not_over}
+use Rattle.salefile.proofs.Checks.{clear_remark, clear_lot, clear_open, clear_close, clear_bid, clear_end, clear_over, reject_open, reject_close_none, reject_bid_none, reject_range, reject_bids, reject_no_lots, reject_same_lots, reject_end, reject_header, reject_illegible, reject_over, reject_after}
 use Rattle.salefile.proofs.Steps.{after, after_is, kept_start, kept_remark, kept_lot, open_top, top, close_top, bid_top, nothing_open, lots_inside, again, afresh, ended_lots, ended_packaged, ended_lodged}
 use Rattle.salefile.proofs.Reading.{begins_more, sound_more, reject_first, sound_first}
 use Rattle.salefile.proofs.Uniqueness.{unique}
-use Rattle.salefile.proofs.Ranges.{ranged, beyond}
+use Rattle.salefile.proofs.Runs.{same_run}
 
 abbrev Keeps : List Kind → State → Type 0
 Keeps ks s = Kept ks s.lots s.packages (reverse s.unclosed) s.bids
 
 -- a run among others
 
-same_run : (x r : Run) → (eqb x.first r.first && eqb x.last r.last) ≡ true → x ≡ r
-same_run x r e =
-    let p = and_parts (eqb x.first r.first) (eqb x.last r.last) e in
-    let f = eqb-true x.first r.first p.0 in
-    let l = eqb-true x.last r.last p.1 in
-    λ i. record { first = f i; last = l i }
-
 found : (r : Run) (xs : List Run) → some_is r xs ≡ true → (m : ℕ) × (m < length xs) × ((d : Run) → get_or xs m d ≡ r)
 unfolding some_is
-found r [] e = absurd (true≢false (sym e))
+found r [] e = cc
 found r (x ∷ xs) e =
     ⊎_elim
     (λ h. (0, omega arith, λ d. same_run x r h))
@@ -45,10 +39,8 @@ found r (x ∷ xs) e =
 met : (r : Run) (xs : List Run) (m : ℕ) (d : Run) → m < length xs → get_or xs m d ≡ r → some_is r xs ≡ true
 unfolding some_is
 met r [] m d lt e = absurd (omega arith)
-met r (x ∷ xs) zero d lt e =
-    or_left (eqb x.first r.first && eqb x.last r.last) (some_is r xs)
-    (and_from (eqb x.first r.first) (eqb x.last r.last) (eq-eqb x.first r.first (ap (λ y. y.first) e)) (eq-eqb x.last r.last (ap (λ y. y.last) e)))
-met r (x ∷ xs) (suc m) d lt e = or_right (eqb x.first r.first && eqb x.last r.last) (some_is r xs) (met r xs m d (omega arith) e)
+met r (x ∷ xs) zero d lt e = let first = ap (λ y. y.first) e in let last = ap (λ y. y.last) e in grind (arith, nat_tests)
+met r (x ∷ xs) (suc m) d lt e = let later = met r xs m d (omega arith) e in grind (arith, nat_tests)
 
 -- one line more
 
@@ -67,7 +59,7 @@ module _ (space : ℕ) (ks : List Kind) (n : ℕ) (at : n ≡ length ks + 1) whe
       })) (Err 22))
   opened s h true e = (
     clear_open space ks h.begun h.going (omega (arith, h.packaged.many, ltb-true (length s.packages) space e)),
-    open_top ks s.lots s.packages (reverse s.unclosed) s.bids h _ _ _ _ refl (reverse-cons _ s.unclosed) (h.packaged.many, at, ap (λ m. m + 1) h.lot_count),
+    open_top h _ _ _ _ refl (reverse-cons _ s.unclosed) (h.packaged.many, at, ap (λ m. m + 1) h.lot_count),
   )
   opened s h false e = reject_open space ks h.begun h.going n at (omega (arith, h.packaged.many, ltb-false (length s.packages) space e))
 
@@ -78,20 +70,20 @@ module _ (space : ℕ) (ks : List Kind) (n : ℕ) (at : n ≡ length ks + 1) whe
     closed_new : (t : Bool) → o.first ≤ s.lots → some_is (record { first = o.first; last = s.lots }) (drop (o.«package» + 1) s.packages) ≡ t
         → Adds space ks closing n (cond t (Err 7) (Ok (record { lots = s.lots; packages = set s.packages o.«package» (record { first = o.first; last = s.lots }); unclosed = os; bids = s.bids })))
     closed_new true le e =
-        let t = top ks s.lots s.packages (reverse s.unclosed) s.bids h (reverse os) o stack in
-        let l = lots_inside ks s.lots s.packages (reverse s.unclosed) s.bids h t.0 t.1 t.2 in
+        let t = top h (reverse os) o stack in
+        let l = lots_inside h t.0 t.1 t.2 in
         let e' = ap (some_is (record { first = o.first; last = s.lots })) (after_is s.packages o.«package») ∙ e in
         let f = found (record { first = o.first; last = s.lots }) (after s.packages o.«package») e' in
         reject_same_lots space ks h.begun h.going n t.0 t.1 at t.2 (omega (arith, t.3.2))
-        (again ks s.lots s.packages (reverse s.unclosed) s.bids h t.0 t.1 t.2 s.packages refl o.«package» t.3.0 (record { first = o.first; last = s.lots }) t.3.2 refl f.0 f.1 f.2)
+        (again h t.0 t.1 t.2 s.packages refl o.«package» t.3.0 (record { first = o.first; last = s.lots }) t.3.2 refl f.0 f.1 f.2)
     closed_new false le e =
-        let t = top ks s.lots s.packages (reverse s.unclosed) s.bids h (reverse os) o stack in
-        let l = lots_inside ks s.lots s.packages (reverse s.unclosed) s.bids h t.0 t.1 t.2 in
+        let t = top h (reverse os) o stack in
+        let l = lots_inside h t.0 t.1 t.2 in
         let e' = ap (some_is (record { first = o.first; last = s.lots })) (after_is s.packages o.«package») ∙ e in (
           clear_close space ks h.begun h.going t.0 t.1 t.2 (omega (arith, t.3.2))
-              (afresh ks s.lots s.packages (reverse s.unclosed) s.bids h t.0 t.1 t.2 s.packages refl o.«package» t.3.0 (record { first = o.first; last = s.lots }) t.3.2 refl
-              (λ m d lt g. true≢false (sym (met (record { first = o.first; last = s.lots }) (after s.packages o.«package») m d lt g) ∙ e'))),
-          close_top ks s.lots s.packages (reverse s.unclosed) s.bids h (reverse os) o stack,
+              (afresh h t.0 t.1 t.2 s.packages refl o.«package» t.3.0 (record { first = o.first; last = s.lots }) t.3.2 refl
+              (λ m d lt g. let some = met (record { first = o.first; last = s.lots }) (after s.packages o.«package») m d lt g in cc)),
+          close_top h (reverse os) o stack,
         )
 
     closed_some : (t : Bool) → leb o.first s.lots ≡ t
@@ -102,8 +94,8 @@ module _ (space : ℕ) (ks : List Kind) (n : ℕ) (at : n ≡ length ks + 1) whe
         (Err 6))
     closed_some true e = closed_new (some_is (record { first = o.first; last = s.lots }) (drop (o.«package» + 1) s.packages)) (leb-true o.first s.lots e) refl
     closed_some false e =
-        let t = top ks s.lots s.packages (reverse s.unclosed) s.bids h (reverse os) o stack in
-        let l = lots_inside ks s.lots s.packages (reverse s.unclosed) s.bids h t.0 t.1 t.2 in
+        let t = top h (reverse os) o stack in
+        let l = lots_inside h t.0 t.1 t.2 in
         reject_no_lots space ks h.begun h.going n t.0 t.1 at t.2 (omega (arith, l, t.3.2, leb-false o.first s.lots e))
 
     module _ (buyer price : List ℕ) where
@@ -112,12 +104,12 @@ module _ (space : ℕ) (ks : List Kind) (n : ℕ) (at : n ≡ length ks + 1) whe
           (Ok (record { lots = s.lots; packages = s.packages; unclosed = s.unclosed; bids = s.bids ++ (new_bid (value buyer) (value price) (o.«package» + 1) ∷ []) }))
           (Err 23))
       offered_room true inside e =
-          let t = top ks s.lots s.packages (reverse s.unclosed) s.bids h (reverse os) o stack in (
+          let t = top h (reverse os) o stack in (
             clear_bid space ks h.begun h.going buyer price t.0 t.1 t.2 inside (omega (arith, h.lodged.many, ltb-true (length s.bids) max_bids e)),
-            bid_top ks s.lots s.packages (reverse s.unclosed) s.bids h (reverse os) o stack _ _ _ _ _ buyer price refl refl refl refl refl,
+            bid_top h (reverse os) o stack _ _ _ _ _ buyer price refl refl refl refl refl,
           )
       offered_room false inside e =
-          let t = top ks s.lots s.packages (reverse s.unclosed) s.bids h (reverse os) o stack in
+          let t = top h (reverse os) o stack in
           reject_bids space ks h.begun h.going buyer price n t.0 t.1 at t.2 inside (omega (arith, h.lodged.many, ltb-false (length s.bids) max_bids e))
 
       offered_range : (t : Bool) → (is_buyer (value buyer) && is_price (value price)) ≡ t
@@ -126,13 +118,13 @@ module _ (space : ℕ) (ks : List Kind) (n : ℕ) (at : n ≡ length ks + 1) whe
           (Ok (record { lots = s.lots; packages = s.packages; unclosed = s.unclosed; bids = s.bids ++ (new_bid (value buyer) (value price) (o.«package» + 1) ∷ []) }))
           (Err 23))
           (Err 4))
-      offered_range true e = offered_room (ltb (length s.bids) max_bids) (ranged (value buyer) (value price) e) refl
+      offered_range true e = offered_room (ltb (length s.bids) max_bids) (grind (arith, nat_tests)) refl
       offered_range false e =
-          let t = top ks s.lots s.packages (reverse s.unclosed) s.bids h (reverse os) o stack in
-          reject_range space ks h.begun h.going buyer price n t.0 t.1 at t.2 (beyond (value buyer) (value price) e)
+          let t = top h (reverse os) o stack in
+          reject_range space ks h.begun h.going buyer price n t.0 t.1 at t.2 (λ h. grind (arith, nat_tests))
 
   shut : (s : State) → Keeps ks s → s.unclosed ≡ [] → NoneOpen ks
-  shut s h is = nothing_open ks s.lots s.packages (reverse s.unclosed) s.bids h (ap (λ l. length (reverse l)) is)
+  shut s h is = nothing_open h (ap (λ l. length (reverse l)) is)
 
   closed : (s : State) → Keeps ks s → (os : List Opened) → s.unclosed ≡ os → Adds space ks closing n (close s os)
   closed s h [] is = reject_close_none space ks h.begun h.going n at (shut s h is)
@@ -146,47 +138,32 @@ module _ (space : ℕ) (ks : List Kind) (n : ℕ) (at : n ≡ length ks + 1) whe
   added s h header e = reject_header space ks h.begun h.going n at
   added s h opening e = opened s h (ltb (length s.packages) space) refl
   added s h closing e = closed s h s.unclosed refl
-  added s h lot e = (clear_lot space ks h.begun h.going, kept_lot ks s.lots s.packages (reverse s.unclosed) s.bids h)
+  added s h lot e = (clear_lot space ks h.begun h.going, kept_lot h)
   added s h (bid b p) e = offered s h b p s.unclosed refl
-  added s h (remark w) e = (clear_remark space ks h.begun h.going w, kept_remark ks s.lots s.packages (reverse s.unclosed) s.bids h w)
-  added s h ending e = absurd (true≢false e)
+  added s h (remark w) e = (clear_remark space ks h.begun h.going w, kept_remark h w)
+  added s h ending e = cc
 
 -- all lines
 
 is_ending : (k : Kind) → ends k ≡ true → k ≡ ending
-is_ending header e = absurd (true≢false (sym e))
-is_ending opening e = absurd (true≢false (sym e))
-is_ending closing e = absurd (true≢false (sym e))
-is_ending lot e = absurd (true≢false (sym e))
-is_ending (bid b p) e = absurd (true≢false (sym e))
-is_ending (remark w) e = absurd (true≢false (sym e))
 is_ending ending e = refl
+is_ending _ e = cc
 
 is_header : (k : Kind) → begins k ≡ true → k ≡ header
 is_header header e = refl
-is_header opening e = absurd (true≢false (sym e))
-is_header closing e = absurd (true≢false (sym e))
-is_header lot e = absurd (true≢false (sym e))
-is_header (bid b p) e = absurd (true≢false (sym e))
-is_header (remark w) e = absurd (true≢false (sym e))
-is_header ending e = absurd (true≢false (sym e))
+is_header _ e = cc
 
 not_header : (k : Kind) → begins k ≡ false → line k ≡ line header → ⊥
-not_header header e = absurd (true≢false e)
-not_header opening e = apart tt
-not_header closing e = apart tt
-not_header lot e = apart tt
-not_header (bid b p) e = apart tt
-not_header (remark w) e = apart tt
-not_header ending e = apart tt
+not_header header e is = cc
+not_header _ e is = cc
 
 -- what stands at the first of the rows
 first_sight : (row : Row) (rest : List Row) → (x : Item) × ((rows : List Row) → rows ≡ row ∷ rest → FirstIs rows x) × (x ≡ over → ⊥)
 first_sight row rest = first (legible row) refl
   where
     first : (t : Bool) → legible row ≡ t → (x : Item) × ((rows : List Row) → rows ≡ row ∷ rest → FirstIs rows x) × (x ≡ over → ⊥)
-    first true e = (line (kind row), (λ rows is. (row, rest, is, legible_tells row e)), line_not_over (kind row))
-    first false e = (illegible, (λ rows is. (row, rest, is, not_legible row e)), apart tt)
+    first true e = (line (kind row), (λ rows is. (row, rest, is, legible_tells row e)), λ is. cc)
+    first false e = (illegible, (λ rows is. (row, rest, is, not_legible row e)), λ is. cc)
 
 module _ (file : List ℕ) (space : ℕ) (fits : length file ≤ max_bytes) where
   refuse : (ks : List Kind) (x : Item) (n p : ℕ) → BeginsWith file ks x → Sound space ks → Rejects space ks x n p → Refused file space n p
@@ -195,7 +172,7 @@ module _ (file : List ℕ) (space : ℕ) (fits : length file ≤ max_bytes) wher
   module _ (ks : List Kind) (s : State) (h : Keeps ks s) (sound : Sound space ks) (n : ℕ) (at : n ≡ length ks + 1) (row : Row) (rest : List Row) (here : Begins (rows_of file) ks (row ∷ rest)) where
     finished : Tells row ending → (os : List Opened) → s.unclosed ≡ os → (rows : List Row) → rest ≡ rows → Reads file space (finish n s os rows)
     finished t (o ∷ os) is rows e =
-        let w = top ks s.lots s.packages (reverse s.unclosed) s.bids h (reverse os) o (ap reverse is ∙ reverse-cons o os) in
+        let w = top h (reverse os) o (ap reverse is ∙ reverse-cons o os) in
         refuse ks (line ending) 8 o.line (row ∷ rest, here, (row, rest, refl, t)) sound (reject_end space ks h.begun h.going o.line w.0 w.1 w.3.1 w.2)
     finished t [] is (next ∷ rows) e =
         let shut' = shut space ks n at s h is in
@@ -214,9 +191,9 @@ module _ (file : List ℕ) (space : ℕ) (fits : length file ≤ max_bytes) wher
             sound_more space ks ending sound (clear_end space ks h.begun h.going shut'),
             clear_over space ks,
             record {
-              lot_count = ended_lots ks s.lots s.packages (reverse s.unclosed) s.bids h;
-              packaged = ended_packaged ks s.lots s.packages (reverse s.unclosed) s.bids h;
-              lodged = ended_lodged ks s.lots s.packages (reverse s.unclosed) s.bids h;
+              lot_count = ended_lots h;
+              packaged = ended_packaged h;
+              lodged = ended_lodged h;
             },
           ),
         )
@@ -251,12 +228,12 @@ module _ (file : List ℕ) (space : ℕ) (fits : length file ≤ max_bytes) wher
       walked rest (header ∷ []) (record { lots = 0; packages = []; unclosed = []; bids = [] }) (kept_start [] [] [] refl refl refl) (sound_first space) 2 refl
       (subst (λ l. Begins l (header ∷ []) rest) (sym is) (t, refl))
   started row rest is true false e f = reject_first file space (line (kind row)) fits (row ∷ rest, is, (row, rest, refl, legible_tells row e)) (not_header (kind row) f)
-  started row rest is false true e f = reject_first file space illegible fits (row ∷ rest, is, (row, rest, refl, not_legible row e)) (apart tt)
-  started row rest is false false e f = reject_first file space illegible fits (row ∷ rest, is, (row, rest, refl, not_legible row e)) (apart tt)
+  started row rest is false true e f = reject_first file space illegible fits (row ∷ rest, is, (row, rest, refl, not_legible row e)) (λ is. cc)
+  started row rest is false false e f = reject_first file space illegible fits (row ∷ rest, is, (row, rest, refl, not_legible row e)) (λ is. cc)
 
   first_read : (rows : List Row) → rows_of file ≡ rows → Reads file space (from_first space rows)
   unfolding from_first
-  first_read [] is = reject_first file space over fits ([], is, refl) (apart tt)
+  first_read [] is = reject_first file space over fits ([], is, refl) (λ is. cc)
   first_read (row ∷ rest) is = started row rest is (legible row) (begins (kind row)) refl refl
 
 pub reads_right : (file : List ℕ) (space : ℕ) → Reads file space (reading space file)

@@ -1,5 +1,4 @@
-pub mod Numbers
-pub mod Ranges
+pub mod Runs
 pub mod Nesting
 pub mod Steps
 pub mod Checks

@@ -1,24 +1,23 @@
 -- A file read line by line.
 use Rattle.std.proofs.Common.{◌≡◌, ℕ, ◌+◌, ◌<◌, ◌≤◌, List, [], ◌∷◌, ◌++◌, length, drop, Some, None, Ok, Err, Option, Result, sym, refl, ap, ◌∙◌, subst, inl, inr, ⊎_elim, arith, length-append}
-use Rattle.bids.specs.Limits.{max_packages}
 use Rattle.salefile.specs.Limits.{max_bytes}
 use Rattle.salefile.specs.FileContents.{FileContents}
 use Rattle.salefile.specs.declared.fault.Fault.{Fault}
 use Rattle.salefile.specs.declared.fault.Fault.TheVariants.{AfterEnd}
 use Rattle.lines.specs.declared.line.Numbered.{Numbered}
 use Rattle.lines.specs.declared.line.Unreadable.{Unreadable}
-use Rattle.lines.specs.Kinds.{Kind, header, opening, closing, lot, bid, remark, ending, Proper}
+use Rattle.lines.specs.Kinds.{Kind, header, lot, ending}
 use Rattle.lines.specs.Rows.{Row, rows_of, Tells}
 use Rattle.lines.specs.Reader.{kind_of, Next}
 use Rattle.salefile.specs.Files.{Begins, BeginsWith, Item, over, illegible, line, Sound, Clear, Fails, order, Refused, Rejects, Outcome, Accepted, Describes, no_header}
 use Rattle.lines.specs.declared.reader.LineReader.{LineReader}
 use Rattle.salefile.specs.declared.draft.Draft.{Draft}
 use Rattle.lines.specs.declared.line.Line.{Line}
-use Rattle.lines.specs.declared.line.Line.TheVariants.{Header, Open, Close, Lot, Bid, Remark, End}
+use Rattle.lines.specs.declared.line.Line.TheVariants.{Header, End}
 use Rattle.salefile.specs.Blocks.{is_lot, lots, NoneOpen}
 use Rattle.salefile.specs.Draft.{Reached, Loading, Ending, Keeps, RefusedBy}
 use Rattle.salefile.proofs.Nesting.{split_last, no_cons}
-use Rattle.salefile.proofs.Checks.{apart, clear_first, clear_end, clear_over, reject_after}
+use Rattle.salefile.proofs.Checks.{clear_first, clear_end, clear_over, reject_after}
 
 pub begins_more : (rows : List Row) (ks : List Kind) (k : Kind) (row : Row) (rest : List Row) → Begins rows ks (row ∷ rest) → Tells row k → Begins rows (ks ++ (k ∷ [])) rest
 begins_more rows [] k row rest h t = subst (λ l. Begins l (k ∷ []) rest) (sym h) (t, refl)
@@ -30,6 +29,11 @@ abbrev pub sight : Result (Option Numbered) Unreadable → Item
 sight (Ok None) = over
 sight (Ok (Some n)) = line (kind_of n.line)
 sight (Err u) = illegible
+
+sees_over : (r : Result (Option Numbered) Unreadable) → sight r ≡ over → r ≡ Ok None
+sees_over (Ok None) e = refl
+sees_over (Ok (Some n)) e = cc
+sees_over (Err u) e = cc
 
 -- one line more that passes every check
 pub sound_more : (space : ℕ) (ks : List Kind) (k : Kind) → Sound space ks → Clear (Fails space ks (line k)) order → Sound space (ks ++ (k ∷ []))
@@ -44,16 +48,18 @@ pub record Shown (file : List ℕ) (ks : List Kind) (n : Numbered) (s s' : LineR
   pub reached : Reached file (ks ++ (kind_of n.line ∷ [])) s'
   pub numbered : n.number ≡ length ks + 1
   pub shows : BeginsWith file ks (line (kind_of n.line))
-  pub proper : Proper (kind_of n.line)
   pub onward : s.at < s'.at
 
 -- what a call of the reader shows after the lines ks
-module _ (file : List ℕ) (ks : List Kind) (s s' : LineReader) (reached : Reached file ks s) (same : s'.file.now ≡ s.file.now) where
-  told : (r : Result (Option Numbered) Unreadable) → Next s.file.now (rows_of (drop s.at s.file.now)) s.number s.at r s'.number s'.at → Next file (rows_of (drop s.at file)) s.number s.at r s'.number s'.at
-  told r h = subst (λ f. Next f (rows_of (drop s.at f)) s.number s.at r s'.number s'.at) reached.same h
+module _ {file : List ℕ} {ks : List Kind} {s : LineReader} (s' : LineReader) (reached : Reached file ks s) (same : s'.file.now ≡ s.file.now) where
+  abbrev pub Told : Result (Option Numbered) Unreadable → Type 0
+  Told r = Next s.file.now (rows_of (drop s.at s.file.now)) s.number s.at r s'.number s'.at
+
+  told : {r a : Result (Option Numbered) Unreadable} → r ≡ a → Told r → Next file (rows_of (drop s.at file)) s.number s.at a s'.number s'.at
+  told {r} {a} is h = subst (λ f. Next f (rows_of (drop s.at f)) s.number s.at a s'.number s'.at) reached.same (subst Told is h)
 
   shown_by : (rows : List Row) → rows_of (drop s.at file) ≡ rows → (n : Numbered) → Next file rows s.number s.at (Ok (Some n)) s'.number s'.at → Shown file ks n s s'
-  shown_by [] e n h = let z : ◌≡◌ {A = ℕ} 0 1 = cc h.0 in absurd (omega arith)
+  shown_by [] e n h = cc
   shown_by (row ∷ rest) e n h =
       record {
         reached = record {
@@ -63,32 +69,35 @@ module _ (file : List ℕ) (ks : List Kind) (s s' : LineReader) (reached : Reach
         };
         numbered = omega (arith, h.0.0, reached.counted);
         shows = (rows_of (drop s.at file), reached.begins, (row, rest, e, h.0.1));
-        proper = h.0.1.1.1;
         onward = omega (arith, h.0.3);
       }
 
-  pub line_shown : (r : Result (Option Numbered) Unreadable) (n : Numbered) → r ≡ Ok (Some n) → Next s.file.now (rows_of (drop s.at s.file.now)) s.number s.at r s'.number s'.at → Shown file ks n s s'
-  line_shown r n is h = shown_by (rows_of (drop s.at file)) refl n (subst (λ y. Next file (rows_of (drop s.at file)) s.number s.at y s'.number s'.at) is (told r h))
+  pub line_shown : {r : Result (Option Numbered) Unreadable} {n : Numbered} → r ≡ Ok (Some n) → Told r → Shown file ks n s s'
+  line_shown {r} {n} is h = shown_by (rows_of (drop s.at file)) refl n (told is h)
 
   over_by : (rows : List Row) → rows_of (drop s.at file) ≡ rows → Next file rows s.number s.at (Ok None) s'.number s'.at → BeginsWith file ks over × (s'.number ≡ length ks)
   over_by [] e h = ((rows_of (drop s.at file), reached.begins, e), h.1 ∙ reached.counted)
   over_by (row ∷ rest) e h = absurd h.0
 
-  pub over_shown : (r : Result (Option Numbered) Unreadable) → r ≡ Ok None → Next s.file.now (rows_of (drop s.at s.file.now)) s.number s.at r s'.number s'.at → BeginsWith file ks over × (s'.number ≡ length ks)
-  over_shown r is h = over_by (rows_of (drop s.at file)) refl (subst (λ y. Next file (rows_of (drop s.at file)) s.number s.at y s'.number s'.at) is (told r h))
+  pub over_shown : {r : Result (Option Numbered) Unreadable} → r ≡ Ok None → Told r → BeginsWith file ks over × (s'.number ≡ length ks)
+  over_shown is h = over_by (rows_of (drop s.at file)) refl (told is h)
 
   illegible_by : (rows : List Row) → rows_of (drop s.at file) ≡ rows → (u : Unreadable) → Next file rows s.number s.at (Err u) s'.number s'.at → BeginsWith file ks illegible × (u.line ≡ length ks + 1)
-  illegible_by [] e u h = let z : ◌≡◌ {A = ℕ} 0 1 = cc h.0 in absurd (omega arith)
+  illegible_by [] e u h = cc
   illegible_by (row ∷ rest) e u h = ((rows_of (drop s.at file), reached.begins, (row, rest, e, h.0.1)), omega (arith, h.0.0, reached.counted))
 
-  pub illegible_shown : (r : Result (Option Numbered) Unreadable) (u : Unreadable) → r ≡ Err u → Next s.file.now (rows_of (drop s.at s.file.now)) s.number s.at r s'.number s'.at → BeginsWith file ks illegible × (u.line ≡ length ks + 1)
-  illegible_shown r u is h = illegible_by (rows_of (drop s.at file)) refl u (subst (λ y. Next file (rows_of (drop s.at file)) s.number s.at y s'.number s'.at) is (told r h))
+  pub illegible_shown : {r : Result (Option Numbered) Unreadable} {u : Unreadable} → r ≡ Err u → Told r → BeginsWith file ks illegible × (u.line ≡ length ks + 1)
+  illegible_shown {r} {u} is h = illegible_by (rows_of (drop s.at file)) refl u (told is h)
 
   -- whatever the reader answers, it is a sight
-  pub some_sight : (r : Result (Option Numbered) Unreadable) → Next s.file.now (rows_of (drop s.at s.file.now)) s.number s.at r s'.number s'.at → (x : Item) × BeginsWith file ks x × (x ≡ sight r)
-  some_sight (Ok None) h = (over, (over_shown (Ok None) refl h).0, refl)
-  some_sight (Ok (Some n)) h = (line (kind_of n.line), (line_shown (Ok (Some n)) n refl h).shows, refl)
-  some_sight (Err u) h = (illegible, (illegible_shown (Err u) u refl h).0, refl)
+  some_sight : (r : Result (Option Numbered) Unreadable) → Told r → (x : Item) × BeginsWith file ks x × (x ≡ sight r)
+  some_sight (Ok None) h = (over, (over_shown refl h).0, refl)
+  some_sight (Ok (Some n)) h = (line (kind_of n.line), (line_shown refl h).shows, refl)
+  some_sight (Err u) h = (illegible, (illegible_shown refl h).0, refl)
+
+  -- an answer that is not the end of the file
+  pub seen_more : (r : Result (Option Numbered) Unreadable) → Told r → (r ≡ Ok None → ⊥) → (x : Item) × BeginsWith file ks x × (x ≡ over → ⊥)
+  seen_more r h other = let seen = some_sight r h in (seen.0, seen.1, λ e. other (sees_over r (sym seen.2 ∙ e)))
 
 -- the first line
 
@@ -99,45 +108,39 @@ reject_first file space x fits shows other =
 pub sound_first : (space : ℕ) → Sound space (header ∷ [])
 sound_first space = sound_more space [] header (λ b k a e. absurd (no_cons b k a e)) (clear_first space)
 
+is_header : (l : Line) → line (kind_of l) ≡ line header → l ≡ Header
+is_header Header e = refl
+is_header _ e = cc
+
+sees_header : (r : Result (Option Numbered) Unreadable) → sight r ≡ line header → (n : Numbered) × (r ≡ Ok (Some n)) × (n.line ≡ Header)
+sees_header (Ok None) e = cc
+sees_header (Ok (Some n)) e = (n, refl, is_header n.line e)
+sees_header (Err u) e = cc
+
+-- an answer that is not the header
+pub refuse_first : {file : List ℕ} (space : ℕ) {s : LineReader} (s' : LineReader) → length file ≤ max_bytes → (reached : Reached file [] s) (same : s'.file.now ≡ s.file.now) (r : Result (Option Numbered) Unreadable) → Told s' reached same r
+    → ((n : Numbered) → r ≡ Ok (Some n) → n.line ≡ Header → ⊥) → Refused file space 2 1
+refuse_first {file} space s' fits reached same r h other =
+    let seen = some_sight s' reached same r h in
+    reject_first file space seen.0 fits seen.1 (λ e. let h = sees_header r (sym seen.2 ∙ e) in other h.0 h.1 h.2)
+
 -- a line of the body
 
 pub not_ending : (l : Line) → (l ≡ End → ⊥) → kind_of l ≡ ending → ⊥
-not_ending Header h e = let z : ◌≡◌ {A = ℕ} 0 1 = cc in omega arith
-not_ending Open h e = let z : ◌≡◌ {A = ℕ} 0 1 = cc in omega arith
-not_ending Close h e = let z : ◌≡◌ {A = ℕ} 0 1 = cc in omega arith
-not_ending Lot h e = let z : ◌≡◌ {A = ℕ} 0 1 = cc in omega arith
-not_ending (Bid b p) h e = let z : ◌≡◌ {A = ℕ} 0 1 = cc in omega arith
-not_ending (Remark w) h e = let z : ◌≡◌ {A = ℕ} 0 1 = cc in omega arith
 not_ending End h e = h refl
-
-pub not_header : (l : Line) → (l ≡ Header → ⊥) → line (kind_of l) ≡ line header → ⊥
-not_header Header h e = h refl
-not_header Open h e = apart tt e
-not_header Close h e = apart tt e
-not_header Lot h e = apart tt e
-not_header (Bid b p) h e = apart tt e
-not_header (Remark w) h e = apart tt e
-not_header End h e = apart tt e
+not_ending _ h e = cc
 
 lot_le : (k : Kind) → is_lot k ≤ 1
-lot_le header = omega arith
-lot_le opening = omega arith
-lot_le closing = omega arith
 lot_le lot = omega arith
-lot_le (bid n p) = omega arith
-lot_le (remark w) = omega arith
-lot_le ending = omega arith
+lot_le _ = omega arith
 
 pub lots_le : (ks : List Kind) → lots ks ≤ length ks
 lots_le [] = omega arith
 lots_le (k ∷ ks) = omega (arith, lot_le k, lots_le ks)
 
-module _ (file : List ℕ) (space : ℕ) (s : LineReader) (d : Draft) (now : Loading file space s d) where
+module _ {file : List ℕ} {space : ℕ} {s : LineReader} {d : Draft} (now : Loading file space s d) where
   pub refuse : (x : Item) (n p : ℕ) → BeginsWith file now.lines x → Rejects space now.lines x n p → Refused file space n p
   refuse x n p shows rejects = inr (now.fits, (now.lines, x, shows, now.sound, rejects))
-
-  pub refuse_told : (x : Item) (f : Fault) → BeginsWith file now.lines x → RefusedBy space now.lines x f → Outcome file space (Err f)
-  refuse_told x f shows told = refuse x _ _ shows told
 
   pub few_lots : d.lots < 65535
   few_lots = omega (arith, now.fits, now.keeps.lot_count, lots_le now.lines, now.reached.counted, ap length now.reached.same, s.within, s.counted)
@@ -147,11 +150,11 @@ module _ (file : List ℕ) (space : ℕ) (s : LineReader) (d : Draft) (now : Loa
 pub start : (file : List ℕ) (s : LineReader) → s.file.now ≡ file → s.at ≡ 0 → s.number ≡ 0 → Reached file [] s
 start file s e f g = record { same = e; begins = ap (λ n. rows_of (drop n file)) (sym f); counted = g }
 
-pub loading : (file : List ℕ) (space : ℕ) (s : LineReader) (d : Draft) → length file ≤ max_bytes → space ≤ max_packages → Reached file (header ∷ []) s → Sound space (header ∷ []) → Keeps (header ∷ []) d → Loading s.file.now space s d
-loading file space s d fits few reached sound keeps =
-    subst (λ f. Loading f space s d) (sym reached.same) (record { fits = fits; space_few = few; lines = header ∷ []; reached = reached; keeps = keeps; sound = sound })
+pub loading : (file : List ℕ) (s : LineReader) (d : Draft) → length file ≤ max_bytes → Reached file (header ∷ []) s → Sound d.space (header ∷ []) → Keeps (header ∷ []) d → Loading s.file.now d.space s d
+loading file s d fits reached sound keeps =
+    subst (λ f. Loading f d.space s d) (sym reached.same) (record { fits = fits; spaced = refl; lines = header ∷ []; reached = reached; keeps = keeps; sound = sound })
 
-module _ (file : List ℕ) (space : ℕ) (s : LineReader) (d : Draft) (now : Ending file space s d) where
+module _ {file : List ℕ} {space : ℕ} {s : LineReader} {d : Draft} (now : Ending file space s d) where
   pub refuse_end : (f : Fault) → RefusedBy space now.lines (line ending) f → Outcome file space (Err f)
   refuse_end f told = inr (now.fits, (now.lines, line ending, now.shows, now.sound, told))
 

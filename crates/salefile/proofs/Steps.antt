@@ -141,19 +141,19 @@ pub kept_start : (runs : List Run) (st : List Opened) (all : List Bid) → runs 
 kept_start runs st all e f g =
     record {
       begun = begun_more [] header;
-      going = going_more [] header (λ e. let z : ◌≡◌ {A = ℕ} 0 1 = cc in omega arith);
+      going = going_more [] header (λ e. cc);
       lot_count = refl;
       packaged = packaged_plain [] header runs (refl, refl) (record { many = ap length e; each = λ b i a w d. absurd (no_cons b opening _ w.0) });
       nest = subst (λ l. Nest (reverse l) (header ∷ [])) (sym f) (plain (refl, refl) none);
       lodged = lodged_other [] header all refl (record { many = ap length g; each = λ s n q a w b i inn d. absurd (no_cons s (bid n q) a w) });
     }
 
-module _ (ks : List Kind) (n : ℕ) (runs : List Run) (st : List Opened) (all : List Bid) (h : Kept ks n runs st all) where
+module _ {ks : List Kind} {n : ℕ} {runs : List Run} {st : List Opened} {all : List Bid} (h : Kept ks n runs st all) where
   pub kept_remark : (w : List ℕ) → Kept (ks ++ (remark w ∷ [])) n runs st all
   kept_remark w =
       record {
         begun = begun_more ks (remark w);
-        going = going_more ks (remark w) (λ e. let z : ◌≡◌ {A = ℕ} 0 1 = cc in omega arith);
+        going = going_more ks (remark w) (λ e. cc);
         lot_count = omega (arith, h.lot_count, lots_append ks (remark w ∷ []));
         packaged = packaged_plain ks (remark w) runs (refl, refl) h.packaged;
         nest = nest_append (reverse st) ks _ h.nest (plain (refl, refl) none);
@@ -164,7 +164,7 @@ module _ (ks : List Kind) (n : ℕ) (runs : List Run) (st : List Opened) (all : 
   kept_lot =
       record {
         begun = begun_more ks lot;
-        going = going_more ks lot (λ e. let z : ◌≡◌ {A = ℕ} 0 1 = cc in omega arith);
+        going = going_more ks lot (λ e. cc);
         lot_count = omega (arith, h.lot_count, lots_append ks (lot ∷ []));
         packaged = packaged_plain ks lot runs (refl, refl) h.packaged;
         nest = nest_append (reverse st) ks _ h.nest (plain (refl, refl) none);
@@ -175,7 +175,7 @@ module _ (ks : List Kind) (n : ℕ) (runs : List Run) (st : List Opened) (all : 
   kept_open x o op =
       record {
         begun = begun_more ks opening;
-        going = going_more ks opening (λ e. let z : ◌≡◌ {A = ℕ} 0 1 = cc in omega arith);
+        going = going_more ks opening (λ e. cc);
         lot_count = omega (arith, h.lot_count, lots_append ks (opening ∷ []));
         packaged = packaged_open ks runs x h.packaged;
         nest = subst (λ l. Nest l (ks ++ (opening ∷ []))) (sym (reverse-append st (o ∷ []))) (ks, [], (refl, none), op, h.nest);
@@ -186,7 +186,7 @@ module _ (ks : List Kind) (n : ℕ) (runs : List Run) (st : List Opened) (all : 
   kept_bid k m b i inn =
       record {
         begun = begun_more ks (bid k m);
-        going = going_more ks (bid k m) (λ e. let z : ◌≡◌ {A = ℕ} 0 1 = cc in omega arith);
+        going = going_more ks (bid k m) (λ e. cc);
         lot_count = omega (arith, h.lot_count, lots_append ks (bid k m ∷ []));
         packaged = packaged_plain ks (bid k m) runs (refl, refl) h.packaged;
         nest = nest_append (reverse st) ks _ h.nest (plain (refl, refl) none);
@@ -201,7 +201,7 @@ module _ (ks : List Kind) (n : ℕ) (runs : List Run) (st : List Opened) (all : 
   kept_close st' b i inn under =
       record {
         begun = begun_more ks closing;
-        going = going_more ks closing (λ e. let z : ◌≡◌ {A = ℕ} 0 1 = cc in omega arith);
+        going = going_more ks closing (λ e. cc);
         lot_count = omega (arith, h.lot_count, lots_append ks (closing ∷ []));
         packaged = packaged_close ks runs b i inn h.packaged;
         nest = nest_close (reverse st') ks b i inn under;

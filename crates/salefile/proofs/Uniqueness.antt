@@ -6,14 +6,13 @@ use Rattle.std.proofs.lemmas.List.{same_lists}
 use Rattle.packages.specs.declared.run.Run.{Run}
 use Rattle.bids.specs.declared.bid.Bid.{Bid}
 use Rattle.salefile.specs.FileContents.{FileContents}
-use Rattle.lines.specs.Kinds.{Kind, header, opening, closing, lot, bid, remark, ending}
+use Rattle.lines.specs.Kinds.{Kind, opening, closing, bid, ending}
 use Rattle.lines.specs.Rows.{Row, rows_of, Tells}
 use Rattle.salefile.specs.Blocks.{is_bid, bids, Balanced, none, plain, block, Innermost}
 use Rattle.salefile.specs.Files.{Item, over, illegible, line, Begins, FirstIs, BeginsWith, Check, after_end, no_header, bad_line, none_open, out_of_range, no_space, too_many_bids, no_lots, same_lots, unclosed, no_end, number, order, Ended, Fails, First, Clear, Sound, Rejects, Packaged, Lodged, Describes, Accepted, Refused}
 use Rattle.salefile.specs.Unique.{Unique}
 use Rattle.lines.proofs.Decoding.{tells_one}
 use Rattle.salefile.proofs.Nesting.{no_cons, split_last, balanced_append, balanced_none_open, innermost_one, nth_block}
-use Rattle.salefile.proofs.Checks.{line_not_over}
 
 -- one sight at some rows
 
@@ -68,7 +67,7 @@ pub shows_whole : (file : List ℕ) (ks ks' : List Kind) → BeginsWith file ks 
 shows_whole file ks ks' h h' =
     ⊎_elim
     (λ e. e.0)
-    (⊎_elim (λ l. absurd (line_not_over l.0 (sym l.3))) (λ l. absurd (line_not_over l.0 (sym l.3))))
+    (⊎_elim (λ l. cc) (λ l. cc))
     (shows_compare file ks ks' over over h h')
 
 -- one check and one place
@@ -134,13 +133,9 @@ chain_close space ks (above b i inn c) g =
     subst Chain (sym (append_assoc b (opening ∷ i) (closing ∷ [])) ∙ ap (λ l. l ++ (closing ∷ [])) (sym inn.0)) (chain_append b _ c (block inn.1 none))
 
 chain_more : (space : ℕ) (ks : List Kind) (k : Kind) → Chain ks → Clear (Fails space ks (line k)) order → Chain (ks ++ (k ∷ []))
-chain_more space ks header c g = chain_append ks _ c (plain (refl, refl) none)
 chain_more space ks opening c g = above ks [] (refl, none) c
 chain_more space ks closing c g = chain_close space ks c g
-chain_more space ks lot c g = chain_append ks _ c (plain (refl, refl) none)
-chain_more space ks (bid n p) c g = chain_append ks _ c (plain (refl, refl) none)
-chain_more space ks (remark w) c g = chain_append ks _ c (plain (refl, refl) none)
-chain_more space ks ending c g = chain_append ks _ c (plain (refl, refl) none)
+chain_more space ks _ c g = chain_append ks _ c (plain (refl, refl) none)
 
 chain_along : (space : ℕ) (b a : List Kind) → Chain b → Sound space (b ++ a) → Chain (b ++ a)
 chain_along space b [] c h = subst Chain (sym (append-nil b)) c
@@ -163,13 +158,8 @@ last_of (j ∷ ks) =
     (last_of ks)
 
 is_ending : (k : Kind) → (k ≡ ending) ⊎ (k ≡ ending → ⊥)
-is_ending header = inr (λ e. let z : ◌≡◌ {A = ℕ} 0 1 = cc in omega arith)
-is_ending opening = inr (λ e. let z : ◌≡◌ {A = ℕ} 0 1 = cc in omega arith)
-is_ending closing = inr (λ e. let z : ◌≡◌ {A = ℕ} 0 1 = cc in omega arith)
-is_ending lot = inr (λ e. let z : ◌≡◌ {A = ℕ} 0 1 = cc in omega arith)
-is_ending (bid n p) = inr (λ e. let z : ◌≡◌ {A = ℕ} 0 1 = cc in omega arith)
-is_ending (remark w) = inr (λ e. let z : ◌≡◌ {A = ℕ} 0 1 = cc in omega arith)
 is_ending ending = inl refl
+is_ending _ = inr (λ e. cc)
 
 same_last : (b : List Kind) (k : Kind) (b' : List Kind) → b ++ (k ∷ []) ≡ b' ++ (ending ∷ []) → k ≡ ending
 same_last b k b' e = ⊎_elim (λ r. r.1) (λ r. absurd (no_cons r.0 k [] r.2)) (split_last b k b' ending [] e)
@@ -221,12 +211,6 @@ nth_after k ks j z t = (k ∷ t.0, t.1, t.2, t.3, ap (λ l. k ∷ l) t.4, omega 
 
 pub nth_bid : (ks : List Kind) (j : ℕ) → j < bids ks → NthBid ks j
 nth_bid [] j lt = absurd (omega arith)
-nth_bid (header ∷ ks) j lt = nth_after header ks j refl (nth_bid ks j (omega arith))
-nth_bid (opening ∷ ks) j lt = nth_after opening ks j refl (nth_bid ks j (omega arith))
-nth_bid (closing ∷ ks) j lt = nth_after closing ks j refl (nth_bid ks j (omega arith))
-nth_bid (lot ∷ ks) j lt = nth_after lot ks j refl (nth_bid ks j (omega arith))
-nth_bid (remark w ∷ ks) j lt = nth_after (remark w) ks j refl (nth_bid ks j (omega arith))
-nth_bid (ending ∷ ks) j lt = nth_after ending ks j refl (nth_bid ks j (omega arith))
 nth_bid (bid n q ∷ ks) j lt =
     ⊎_elim
     (λ first. ([], n, q, ks, refl, omega arith))
@@ -234,6 +218,7 @@ nth_bid (bid n q ∷ ks) j lt =
     let t = nth_bid ks (j - 1) (omega arith) in
     (bid n q ∷ t.0, t.1, t.2, t.3, ap (λ l. bid n q ∷ l) t.4, omega (arith, t.5)))
     (cases_lt j 1)
+nth_bid (k ∷ ks) j lt = nth_after k ks j refl (nth_bid ks j (omega arith))
 
 pub open_at : (space : ℕ) (s : List Kind) (n q : List ℕ) → Chain s → Clear (Fails space s (line (bid n q))) order → (b : List Kind) × (i : List Kind) × Innermost s b i
 open_at space s n q (ground h) g = absurd (g.1.1.1.0 (length s + 1) (inr (n, q, refl), balanced_none_open s h, refl))
@@ -262,7 +247,7 @@ module _ (file : List ℕ) (space : ℕ) where
   accepted_one c c' h h' =
       ⊎_elim
       (λ e. describes_one space h.1.0 c c' h.1.2 h.1.3 h.1.4 (subst (λ l. Describes l c') (sym e.0) h'.1.4))
-      (⊎_elim (λ l. absurd (line_not_over l.0 (sym l.3))) (λ l. absurd (line_not_over l.0 (sym l.3))))
+      (⊎_elim (λ l. cc) (λ l. cc))
       (shows_compare file h.1.0 h'.1.0 over over h.1.1 h'.1.1)
 
   not_both : (c : FileContents) (n p : ℕ) → Accepted file space c → Refused file space n p → ⊥
@@ -276,7 +261,7 @@ module _ (file : List ℕ) (space : ℕ) where
       (λ e.
       let there = subst (λ y. First (Fails space ks' y) order q.1.4.0 p) (sym e.1) q.1.4.1 in
       first_not_clear (Fails space ks over) order q.1.4.0 p (subst (λ l. First (Fails space l over) order q.1.4.0 p) (sym e.0) there) h.1.3)
-      (⊎_elim (λ l. line_not_over l.0 (sym l.3)) (λ l. not_refused space ks' ks q.1.1 n p l h.1.2 q.1.4))
+      (⊎_elim (λ l. cc) (λ l. not_refused space ks' ks q.1.1 n p l h.1.2 q.1.4))
       (shows_compare file ks ks' over q.1.1 h.1.1 q.1.2))
       r
 

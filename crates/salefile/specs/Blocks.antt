@@ -7,7 +7,7 @@
 --   Innermost  the innermost package that is open after some lines
 --   NoneOpen   no package is open after some lines
 use Rattle.std.specs.Prelude.{◌≡◌, ℕ, ◌+◌, List, [], ◌∷◌, ◌++◌}
-use Rattle.lines.specs.Kinds.{Kind, header, opening, closing, lot, bid, remark, ending}
+use Rattle.lines.specs.Kinds.{Kind, opening, closing, lot, bid}
 
 -- how many lines of a kind there are, where f is 1 at that kind and 0 elsewhere
 abbrev pub count : (Kind → ℕ) → List Kind → ℕ
@@ -15,40 +15,20 @@ count f [] = 0
 count f (k ∷ ks) = f k + count f ks
 
 abbrev pub is_lot : Kind → ℕ
-is_lot header = 0
-is_lot opening = 0
-is_lot closing = 0
 is_lot lot = 1
-is_lot (bid n p) = 0
-is_lot (remark w) = 0
-is_lot ending = 0
+is_lot _ = 0
 
 abbrev pub is_opening : Kind → ℕ
-is_opening header = 0
 is_opening opening = 1
-is_opening closing = 0
-is_opening lot = 0
-is_opening (bid n p) = 0
-is_opening (remark w) = 0
-is_opening ending = 0
+is_opening _ = 0
 
 abbrev pub is_closing : Kind → ℕ
-is_closing header = 0
-is_closing opening = 0
 is_closing closing = 1
-is_closing lot = 0
-is_closing (bid n p) = 0
-is_closing (remark w) = 0
-is_closing ending = 0
+is_closing _ = 0
 
 abbrev pub is_bid : Kind → ℕ
-is_bid header = 0
-is_bid opening = 0
-is_bid closing = 0
-is_bid lot = 0
 is_bid (bid n p) = 1
-is_bid (remark w) = 0
-is_bid ending = 0
+is_bid _ = 0
 
 abbrev pub lots : List Kind → ℕ
 lots = count is_lot

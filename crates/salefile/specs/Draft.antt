@@ -1,13 +1,12 @@
 -- The state of reading after some lines. This is inner to the proofs: no promise rests on it.
 --   Opens, Nest    an open package, and all that are open after some lines
---   Kept, Keeps, SomeDraft   what is kept of some lines
+--   Kept, Keeps    what is kept of some lines
 --   RefusedBy      a fault is the refusal of an item after some lines
 --   Step           one line more is taken up or refused
 --   Finishes       the end is taken up or refused
 --   Reached, Loading, Ending   how far the reader has come
 use Rattle.std.specs.Prelude.{◌≡◌, ℕ, ◌+◌, ◌≤◌, List, [], ◌∷◌, ◌++◌, reverse, length, drop, vec_items, Result, MatchResult, ◌≢◌}
 use Rattle.packages.specs.declared.run.Run.{Run}
-use Rattle.bids.specs.Limits.{max_packages}
 use Rattle.salefile.specs.Limits.{max_bytes}
 use Rattle.bids.specs.declared.bid.Bid.{Bid}
 use Rattle.salefile.specs.declared.draft.Opened.{Opened}
@@ -43,18 +42,15 @@ pub record Kept (ks : List Kind) (lots_so_far : ℕ) (runs : List Run) (stack : 
 abbrev pub Keeps : List Kind → Draft → Type 0
 Keeps ks d = Kept ks d.lots (vec_items d.packages) (vec_items d.unclosed) (vec_items d.bids)
 
--- the draft is that of some lines
-abbrev pub SomeDraft : Draft → Type 0
-SomeDraft d = (ks : List Kind) × Keeps ks d
-
 -- a fault is the refusal of x after the lines ks
 abbrev pub RefusedBy : ℕ → List Kind → Item → Fault → Type 0
 RefusedBy space ks x f = Rejects space ks x (refusal f).0 (refusal f).1
 
 -- the line k, of the number n, after the lines ks: it is taken up, or refused
-abbrev pub Step : ℕ → ℕ → Kind → Draft → {T : Type 0} → Result T Fault → Draft → Type 0
-Step space n k d r d' =
-    (ks : List Kind) → Keeps ks d → n ≡ length ks + 1 → MatchResult r (λ _. Clear (Fails space ks (line k)) order × Keeps (ks ++ (k ∷ [])) d') (RefusedBy space ks (line k))
+abbrev pub Step : ℕ → Kind → Draft → {T : Type 0} → Result T Fault → Draft → Type 0
+Step n k d r d' =
+    (ks : List Kind) → Keeps ks d → n ≡ length ks + 1
+    → MatchResult r (λ _. Clear (Fails d.space ks (line k)) order × Keeps (ks ++ (k ∷ [])) d' × (d'.space ≡ d.space)) (RefusedBy d.space ks (line k))
 
 -- the end after the lines ks: the contents are complete, or a package is open
 abbrev pub Finishes : Draft → Result Contents Fault → Type 0
@@ -70,7 +66,7 @@ pub record Reached (file : List ℕ) (ks : List Kind) (s : LineReader) : Type 0 
 -- some lines of the file are read and drafted
 pub record Loading (file : List ℕ) (space : ℕ) (s : LineReader) (d : Draft) : Type 0 where
   pub fits : length file ≤ max_bytes
-  pub space_few : space ≤ max_packages
+  pub spaced : d.space ≡ space
   pub lines : List Kind
   pub reached : Reached file lines s
   pub keeps : Keeps lines d

@@ -83,13 +83,8 @@ finish n s [] (row ∷ rest) = refuses 10 (n + 1)
 finish n s [] [] = says (record { lots = s.lots; packages = s.packages; bids = s.bids })
 
 abbrev pub ends : Kind → Bool
-ends header = false
-ends opening = false
-ends closing = false
-ends lot = false
-ends (bid buyer price) = false
-ends (remark words) = false
 ends ending = true
+ends _ = false
 
 abbrev pub further : ℕ → (State → Reading) → Result State ℕ → Reading
 further n onward (Ok s) = onward s
@@ -105,12 +100,7 @@ walk space n s (row ∷ rest) =
 
 abbrev pub begins : Kind → Bool
 begins header = true
-begins opening = false
-begins closing = false
-begins lot = false
-begins (bid buyer price) = false
-begins (remark words) = false
-begins ending = false
+begins _ = false
 
 unfoldable pub from_first : ℕ → List Row → Reading
 from_first space [] = refuses 2 1

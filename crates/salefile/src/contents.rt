@@ -3,7 +3,7 @@ use bids::Bid;
 use packages::Run;
 
 // Packages and bids are numbered from 1 in their order.
-#[derive(Drop)]
+#[derive(Debug, Drop, PartialEq)]
 pub struct Contents {
     pub lots: u16,
     pub packages: Vec<Run>,

@@ -37,7 +37,7 @@ pub enum Fault {
 }
 
 impl Fault {
-    // The number of the refusal and its place.
+    // The number of the refusal and its place: the rules number the refusals.
     pub fn refusal(self) -> (u8, usize)
         ensures { result ≡ refusal_of self }
     {
@@ -76,7 +76,7 @@ pub enum ReadFault {
 }
 
 impl ReadFault {
-    // The number of the refusal and its place; want of memory has none.
+    // The number of the refusal and its place, by the rules; want of memory has none.
     pub fn refusal(self) -> Option<(u8, usize)>
         ensures { result ≡ read_refusal self }
     {

@@ -4,23 +4,17 @@ ghost use Rattle.salefile.specs.Orderly.{AllOrderly, AllNested};
 ghost use Rattle.salefile.specs.Unique.{Unique};
 
 // Each file has one outcome.
-pub fn outcome_is_unique() -> u8
+pub fn outcome_is_unique()
     ensures { Unique }
-{
-    0
-}
+{}
 
 // The packages and bids of an accepted file can be taken up in their order.
-pub fn contents_are_orderly() -> u8
+pub fn contents_are_orderly()
     ensures runs { AllOrderly }
     ensures nest { AllNested }
-{
-    0
-}
+{}
 
 // The computed reading of a file is the one outcome that the rules define.
-pub fn reading_is_exact() -> u8
+pub fn reading_is_exact()
     ensures { Exact }
-{
-    0
-}
+{}

@@ -19,34 +19,26 @@ use std::alloc::Global;
 fn header(lines: &mut LineReader) -> Result<(), Fault>
     ensures { (file : List ℕ) (space : ℕ) → Reached file [] lines.old → length file ≤ max_bytes → MatchResult result (λ _. Reached file (header_line ∷ []) lines.new × Sound space (header_line ∷ [])) (λ f. Outcome file space (Err f)) }
 {
-    let Ok(next) = lines.next() else {
-        return Err(Fault::NoHeader);
-    };
-    let Some(first) = next else {
-        return Err(Fault::NoHeader);
-    };
-    match first.line {
-        Line::Header => Ok(()),
+    match lines.next() {
+        Ok(Some(first)) if matches!(first.line, Line::Header) => Ok(()),
         _ => Err(Fault::NoHeader),
     }
 }
 
 // The lines up to the end.
-fn body(lines: &mut LineReader, draft: &mut Draft, space: usize) -> Result<(), Fault>
-    requires { Loading lines.old.file.now space lines.old draft.old }
-    ensures { MatchResult result (λ _. Ending lines.old.file.now space lines.new draft.new) (λ f. Outcome lines.old.file.now space (Err f)) }
+fn body(lines: &mut LineReader, draft: &mut Draft) -> Result<(), Fault>
+    requires { Loading lines.old.file.now draft.old.space lines.old draft.old }
+    ensures { MatchResult result (λ _. Ending lines.old.file.now draft.old.space lines.new draft.new) (λ f. Outcome lines.old.file.now draft.old.space (Err f)) }
 {
-    loop {
-        let Some(next) = lines.next()? else {
-            return Err(Fault::NoEnd {
-                line: lines.lines_read() + 1,
-            });
-        };
+    while let Some(next) = lines.next()? {
         if let Line::End = next.line {
             return Ok(());
         }
-        draft.add(next.number, next.line, space)?;
+        draft.add(next)?;
     }
+    Err(Fault::NoEnd {
+        line: lines.lines_read() + 1,
+    })
 }
 
 // Nothing stands after the end.
@@ -54,27 +46,23 @@ fn over(lines: &mut LineReader) -> Result<(), Fault>
     ensures { (file : List ℕ) (ks : List Kind) → Reached file ks lines.old → MatchResult result (λ _. BeginsWith file ks nothing) (λ f. (x : Item) × BeginsWith file ks x × (x ≢ nothing) × (f ≡ AfterEnd (length ks + 1))) }
 {
     let line = lines.lines_read() + 1;
-    let Ok(next) = lines.next() else {
-        return Err(Fault::AfterEnd { line });
-    };
-    match next {
-        None => Ok(()),
-        Some(_) => Err(Fault::AfterEnd { line }),
+    match lines.next() {
+        Ok(None) => Ok(()),
+        _ => Err(Fault::AfterEnd { line }),
     }
 }
 
-// What the file says, in a sale with space for so many packages, all read into the draft.
-fn fill(mut draft: Draft, file: &[u8], space: usize) -> Result<Contents, Fault>
-    requires kept { Keeps (header_line ∷ []) draft }
-    requires space_few { space ≤ max_packages }
-    ensures { Outcome file.now space result }
+// What the file says, all read into the draft.
+fn fill(mut draft: Draft, file: &[u8]) -> Result<Contents, Fault>
+    requires { Keeps (header_line ∷ []) draft }
+    ensures { Outcome file.now draft.space result }
 {
     if file.len() > MAX_BYTES {
         return Err(Fault::TooLong);
     }
     let mut lines = LineReader::new(file);
     header(&mut lines)?;
-    body(&mut lines, &mut draft, space)?;
+    body(&mut lines, &mut draft)?;
     let contents = draft.finish()?;
     over(&mut lines)?;
     Ok(contents)
@@ -84,7 +72,6 @@ fn fill(mut draft: Draft, file: &[u8], space: usize) -> Result<Contents, Fault>
 pub fn read(heap: Global, file: &[u8], places: usize) -> Result<Contents, ReadFault>
     ensures { ReadOutcome file.now (min max_packages places) result }
 {
-    let draft = Draft::new(heap)?;
-    let contents = fill(draft, file, MAX_PACKAGES.min(places))?;
-    Ok(contents)
+    let draft = Draft::new(heap, MAX_PACKAGES.min(places))?;
+    Ok(fill(draft, file)?)
 }

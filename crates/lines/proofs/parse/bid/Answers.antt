@@ -1,44 +1,41 @@
-use Rattle.std.proofs.Common.{◌-◌, length, get_or, take, drop, sym, ap, ◌∙◌, subst, arith, rules}
+use Rattle.std.proofs.Common.{◌≡◌, ◌==◌, position, ◌∷◌, ◌++◌, rules, tests, sym, ap, ◌∙◌, subst, arith, length}
+use Rattle.std.proofs.lemmas.Iterator.{YieldsList-from_slice}
+use Rattle.std.proofs.lemmas.Iterator.Search.{position_from_yields_List}
 use Rattle.std.proofs.lemmas.Result.{err_from_is_err_and}
 use Rattle.lines.specs.Kinds.{Numeral}
-use Rattle.lines.proofs.Texts.{Spaced, bid_front, bid_back, bid_whole, after_one}
+use Rattle.lines.proofs.Texts.{numbers, bid_space, bid_parts, bid_whole, front_length}
 use Rattle.lines.proofs.parse.bid.Goals as goal
-use Rattle.lines.proofs.parse.bid.Goals.{in_default-rest-via-then-rest-lt1, in_default-rest-via-else-rest-lt1+in_default-1}
+use Rattle.lines.proofs.parse.bid.Goals.{After-position}
 
-pub returns-in_default-rest : goal.returns-in_default-rest
-returns-in_default-rest c b p w =
-    let h = c.position-n.ensures in
-    let sp : Spaced (take (length c.args.text.now - 2) (drop 2 c.args.text.now)) c.position-n.result = record { within = h.within; before = h.before; found = h.found } in
-    let r = c.split_at.ensures.back ∙ bid_back _ _ sp b p w in
-    let l = ap length r in
-    let g = ap (λ l. get_or l 0 0) r in
-    elim c.in_default-rest.branch [ in_default-rest-via-then-rest-lt1 w ↦ grind arith | in_default-rest-via-else-rest-lt1+in_default-1 w ↦ grind arith ]
+found : (c : After-position) → c.position.result ≡ position (λ y. y == 32) (numbers c.args.text.now)
+found c =
+    position_from_yields_List (λ y. y == 32) _ _ c.position.result c.position.ensures.ran (YieldsList-from_slice (numbers c.args.text.now) cc) (λ x b q k. search (rules, tests))
+
+pub returns-in_default-position : goal.returns-in_default-position
+returns-in_default-position c b p h =
+    let none = found (goal.at.returns-in_default-position c).After-position in
+    let some = bid_space c.args.text.now b p h in
+    cc
 
 pub returns-in_err-buyer : goal.returns-in_err-buyer
 returns-in_err-buyer c =
-    let h = c.position-n.ensures in
-    let sp : Spaced (take (length c.args.text.now - 2) (drop 2 c.args.text.now)) c.position-n.result = record { within = h.within; before = h.before; found = h.found } in
-    let p = err_from_is_err_and c.from_residual.result c.from_residual.ensures.1 in
-    rw p.1
-    (λ n q h. c.in_err-buyer.ensures (subst Numeral (sym (c.split_at.ensures.front ∙ bid_front _ _ sp n q h)) h.1.0))
+    let at = sym (found (goal.at.returns-in_err-buyer c).After-position) ∙ c.in-Some.is in
+    let e = err_from_is_err_and c.from_residual.result c.from_residual.ensures.1 in
+    rw e.1 (λ b p h. c.in_err-buyer.ensures.1 (subst Numeral (sym (bid_parts c.args.text.now c.in-Some.space at b p h).0) h.1.0))
 
 pub returns-in_err-price : goal.returns-in_err-price
 returns-in_err-price c =
-    let h = c.position-n.ensures in
-    let sp : Spaced (take (length c.args.text.now - 2) (drop 2 c.args.text.now)) c.position-n.result = record { within = h.within; before = h.before; found = h.found } in
-    let p = err_from_is_err_and c.from_residual-in_err-price.result c.from_residual-in_err-price.ensures.1 in
-    rw p.1
-    (λ n q h. c.in_err-price.ensures (subst Numeral (sym (after_one _ q 32 (c.split_at.ensures.back ∙ bid_back _ _ sp n q h))) h.1.1))
+    let at = sym (found (goal.at.returns-in_err-price c).After-position) ∙ c.in-Some.is in
+    let e = err_from_is_err_and c.from_residual-in_err-price.result c.from_residual-in_err-price.ensures.1 in
+    rw e.1 (λ b p h. c.in_err-price.ensures.1 (subst Numeral (sym (bid_parts c.args.text.now c.in-Some.space at b p h).1) h.1.1))
 
 pub returns : goal.returns
 returns c =
-    let b = c.in_ok-buyer.ensures in
-    let p = c.in_ok-price.ensures in
-    let first = ap (λ x. x.bytes.now) b.0 in
-    let second = ap (λ x. x.bytes.now) p.0 in (
-      (
-        bid_whole _ _ c.split_at.result.1.now _ c.position-n.result (search rules) (search rules) (first ∙ c.split_at.ensures.front) c.split_at.ensures.back (search rules) second,
-        (subst Numeral (sym first) b.1, subst Numeral (sym second) p.1),
-      ),
-      (ap (λ x. x.at) b.0, omega (arith, ap (λ x. x.at) p.0, ap length first, c.split_at.ensures.front_len)),
+    let at = sym (found (goal.at.returns c).After-position) ∙ c.in-Some.is in
+    let whole = bid_whole c.args.text.now c.in-Some.space at (search rules) (search rules) in
+    let long = front_length c.args.text.now c.in-Some.space at in
+    let first = ap (λ x. x.bytes.now) c.in_ok-buyer.ensures in
+    let second = ap (λ x. x.bytes.now) c.in_ok-price.ensures in (
+      (whole ∙ (λ i. 66 ∷ 32 ∷ (sym first i ++ (32 ∷ sym second i))), (c.in_ok-buyer.buyer.written, c.in_ok-price.price.written)),
+      (ap (λ x. x.at) c.in_ok-buyer.ensures, omega (arith, ap (λ x. x.at) c.in_ok-price.ensures, ap length first)),
     )
