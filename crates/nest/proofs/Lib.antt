@@ -1,6 +1,7 @@
 pub mod Placing
 pub mod Upward
 pub mod Reading
-mod Chaining
+mod Adding
+mod Turning
 mod Downward
 mod Summing

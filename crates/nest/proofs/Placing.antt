@@ -20,7 +20,3 @@ At top b = (1 ≤ b.«package») × (b.«package» ≤ top) × (b.price ≤ high
 
 pub placed_push : (top : ℕ) (xs ys : List Bid) (b : Bid) → ys ≡ xs ++ (b ∷ []) → Placed top xs → 1 ≤ b.«package» → b.«package» ≤ top → b.price ≤ highest_price → Placed top ys
 placed_push top xs ys b e placed low high cheap = subst (Placed top) (sym e) (each_push no_bid (λ i. At top) xs b placed (low, high, cheap))
-
--- More packages leave bids in their places.
-pub placed_more : (top more : ℕ) (bids : List Bid) → top ≤ more → Placed top bids → Placed more bids
-placed_more top more bids l placed i low = let t = placed i low in (t.0, omega (arith, t.1), t.2)

@@ -1,11 +1,11 @@
--- The contest of bids on packages with known parents is nested.
-use Rattle.std.proofs.Common.{◌≡◌, ℕ, zero, suc, ◌-◌, ◌≤◌, true, List, length, get_or, Some, None, Option, refl, ap, ⊎_elim, arith}
+-- The contest of a nest is nested, since each parent is an earlier package.
+use Rattle.std.proofs.Common.{◌≡◌, ℕ, zero, suc, ◌-◌, ◌≤◌, true, List, length, get_or, Some, None, Option, vec_len, vec_items, refl, ap, ⊎_elim, arith}
 use Rattle.std.proofs.Math.ListN.{get_or-eq_default}
 use Rattle.std.proofs.lemmas.Bool.{cases_lt, and_parts, leb-true}
 use Rattle.contest.specs.Nest.{Falling, Nested}
-use Rattle.bids.specs.declared.bid.Bid.{Bid}
-use Rattle.nest.specs.Placed.{up_to, Lower, Placed}
-use Rattle.nest.specs.Contests.{above, parent_in, on_in, nest_contest}
+use Rattle.nest.specs.Placed.{up_to, Lower}
+use Rattle.nest.specs.declared.nest.Nest.{Nest}
+use Rattle.nest.specs.Contests.{above, parent_in, on_in, contest_of_nest}
 
 pub above_up_to : (top : ℕ) (o : Option ℕ) → up_to top o ≡ true → above o ≤ top
 above_up_to top None e = omega arith
@@ -22,5 +22,5 @@ falls_in ps low (suc g) =
     (λ h. let e : parent_in ps (suc g) ≡ 0 = ap above (get_or-eq_default ps None h) in omega (arith, e))
     (cases_lt g (length ps))
 
-pub nested_in : (ps : List (Option ℕ)) (bids : List Bid) → Lower ps → Placed (length ps) bids → Nested (nest_contest ps bids) (parent_in ps) (on_in bids) (length ps)
-nested_in ps bids low placed = record { falls = falls_in ps low; placed = λ k n. let t = placed (k - 1) (omega (arith, n.0, n.1)) in (t.0, t.1); clashes = λ j k n m l. refl }
+pub nested_of : (n : Nest) → Nested (contest_of_nest n) (parent_in (vec_items n.parents)) (on_in (vec_items n.bids)) (vec_len n.parents)
+nested_of n = record { falls = falls_in (vec_items n.parents) n.parents_lower; placed = λ k m. let t = n.bids_placed (k - 1) (omega (arith, m.0, m.1)) in (t.0, t.1); clashes = λ j k m l h. refl }

@@ -3,10 +3,8 @@
 --   choice_of       a bid's price with its number
 --   price_without   a bid's price, nought for the bids of one buyer
 --   low_in          the lowest bid number that a place of a workspace holds
---   marked_others   the marked bids of the other buyers
---   marked_own      the marked bids of one buyer
---   u32_max         the greatest number of 32 bits
-use Rattle.std.specs.Prelude.{ℕ, ◌-◌, Bool, cond, not, ◌&&◌, List, ◌==◌, slice_index_or}
+--   lowest_inside   the lowest bid number in the best choices inside a package
+use Rattle.std.specs.Prelude.{ℕ, ◌-◌, cond, List, ◌==◌, vec_items, slice_index_or}
 use Rattle.bids.specs.declared.bid.Bid.{Bid}
 use Rattle.bids.specs.Bids.{bid_at}
 use Rattle.scales.specs.Tied.{tied_of, no_tied}
@@ -17,9 +15,11 @@ use Rattle.scales.specs.declared.tied.Tied.TheVariants.{Amount}
 use Rattle.scales.specs.declared.lowest.Lowest.{Lowest}
 use Rattle.scales.specs.declared.lowest.Lowest.TheVariants.{Bid as Number}
 use Rattle.scales.specs.declared.revenue.Revenue.{Revenue}
-use Rattle.contest.specs.Choices.{number_of}
-use Rattle.contest.specs.Descent.{marked}
-use Rattle.nest.specs.Contests.{buyer_in}
+use Rattle.scales.specs.Cut.{top_amount}
+use Rattle.contest.specs.Total.{total_by}
+use Rattle.contest.specs.Choices.{choices, number_of}
+use Rattle.nest.specs.declared.nest.Nest.{Nest}
+use Rattle.nest.specs.Contests.{contest_inside_nest}
 
 abbrev pub worth_by : {S M : Type 0} → (S → M) → (ℕ → Bid → S) → List Bid → ℕ → M
 worth_by meaning at bids n = meaning (at n (bid_at bids n))
@@ -34,11 +34,6 @@ price_without buyer n bid = cond (bid.buyer == buyer) no_revenue (revenue_worth 
 abbrev pub low_in : List (Tied Lowest) → ℕ → ℕ
 low_in work g = number_of (tied_of lowest_of (slice_index_or work (g - 1) no_tied))
 
-abbrev pub marked_others : List ℕ → List Bid → ℕ → ℕ → Bool
-marked_others marks bids buyer n = marked marks n && not (buyer_in bids n == buyer)
-
-abbrev pub u32_max : ℕ
-u32_max = 4294967295
-
-abbrev pub marked_own : List ℕ → List Bid → ℕ → ℕ → Bool
-marked_own marks bids buyer n = marked marks n && buyer_in bids n == buyer
+-- 0 where these choices are empty
+abbrev pub lowest_inside : Nest → ℕ → ℕ
+lowest_inside n g = number_of (total_by (choices top_amount) (contest_inside_nest n g) (worth_by (tied_of lowest_of) choice_of (vec_items n.bids)))

@@ -4,5 +4,6 @@ pub mod Checked
 pub mod Totals
 pub mod Awards
 pub mod Charges
-pub mod Chains
+pub mod Own
 pub mod Choosing
+pub mod Asking

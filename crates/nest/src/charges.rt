@@ -6,41 +6,41 @@ ghost use Rattle.nest.specs.Charges.{Charged};
 
 use crate::fault::ChargeFault;
 use crate::nest::Nest;
-use crate::tally::{others_sum, own_sum};
-use crate::worths::PricesWithout;
+use crate::winners::Winners;
 use bids::Bid;
-use bids::limits::{MAX_BIDS, MAX_PACKAGES, is_buyer};
-use scales::Scale;
+use bids::limits::{MAX_PACKAGES, is_buyer};
 use scales::revenue::Revenue;
+use scales::{PricedScale, Scale};
 
 impl Nest {
     // Whether the buyer has a numbered bid.
     fn has_bid(&self, buyer: u32) -> bool
         ensures { result ≡ has_bid_in (contest_of_nest self.now) buyer }
     {
-        let bids = self.bids.as_slice();
-        for bid in bids {
-            if bid.buyer == buyer {
-                return true;
-            }
-        }
-        false
+        self.bids.iter().any(|bid| bid.buyer == buyer)
     }
 
     // What the others could have fetched without the buyer, less what they fetch.
     fn charge_from(&self, buyer: u32) -> u64
         ensures { result ≡ charge_in (contest_of_nest self.now) buyer }
     {
-        let bids = self.bids.as_slice();
-        let mut marks = [0u8; MAX_BIDS];
-        self.mark_award(&mut marks);
-        let others = others_sum(&marks, bids, buyer);
+        let others = Winners::of(self).sum(|_, bid| if bid.buyer == buyer { 0 } else { bid.price });
+        // An array, since a charge does not fail for want of memory.
         let mut work = [Revenue::nought(); MAX_PACKAGES];
-        let best = self.total_from(&PricesWithout { buyer }, &mut work);
+        let best = self.total_from(
+            |_, bid| {
+                if bid.buyer == buyer {
+                    Revenue::nought()
+                } else {
+                    Revenue::worth(u64::from(bid.price))
+                }
+            },
+            &mut work,
+        );
         best.amount().unwrap_or(0) - others
     }
 
-    // The greatest revenue without the buyer's bids, less what the other winners pay.
+    // The greatest revenue without the buyer's bids, less the prices of the others' winning bids.
     pub fn charge(&self, buyer: u32) -> Result<u64, ChargeFault>
         ensures { Charged (contest_of_nest self.now) buyer result }
     {
@@ -57,8 +57,12 @@ impl Nest {
     pub fn winnings(&self, prices: &[Bid], buyer: u32) -> u64
         ensures { result ≡ sum_over (contest_of_nest self.now).count (bids_of (contest_of_nest self.now) buyer (award_in (contest_of_nest self.now))) (price_in prices.now) }
     {
-        let mut marks = [0u8; MAX_BIDS];
-        self.mark_award(&mut marks);
-        own_sum(&marks, self.bids.as_slice(), prices, buyer)
+        Winners::of(self).sum(|number, bid| {
+            if bid.buyer == buyer {
+                prices.get(number - 1).map_or(0, |other| other.price)
+            } else {
+                0
+            }
+        })
     }
 }

@@ -13,7 +13,7 @@ pub enum TotalFault {
 }
 
 impl TotalFault {
-    // The refusal's number, and its place.
+    // The refusal's number and its place: the rules number the refusals.
     pub fn refusal(self) -> (u8, usize)
         ensures { result ≡ total_refusal self }
     {
@@ -31,7 +31,7 @@ pub enum AwardFault {
 }
 
 impl AwardFault {
-    // The refusal's number, and its place.
+    // The refusal's number and its place: the rules number the refusals.
     pub fn refusal(self) -> (u8, usize)
         ensures { result ≡ award_refusal self }
     {
@@ -50,7 +50,7 @@ pub enum ChargeFault {
 }
 
 impl ChargeFault {
-    // The refusal's number, and its place.
+    // The refusal's number and its place: the rules number the refusals.
     pub fn refusal(self) -> (u8, usize)
         ensures { result ≡ charge_refusal self }
     {

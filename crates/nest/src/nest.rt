@@ -5,7 +5,8 @@ ghost use Rattle.nest.specs.Placed.{Lower, Placed};
 
 use bids::Bid;
 
-// Packages and bids, each numbered from 1 in the order of its list. There is room for as many as a sale may have.
+// Packages and bids, each numbered from 1 in the order of its list. There is room for as many as a sale may have. The nest is a list of
+// parents by number and no tree of boxes, since the rules number packages, answer by number, and go over them in that order.
 #[derive(Drop)]
 pub struct Nest {
     // For each package the number of the innermost package around it.

@@ -1,44 +1,52 @@
 // Totals over the clash-free sets of standing bids, by one way up the nest.
-ghost use Rattle.std.specs.Prelude.{◌≡◌, ℕ, ◌<◌, ◌≤◌, length, drop, vec_len, slice_index_or};
+ghost use Rattle.std.specs.Prelude.{◌≡◌, ℕ, ◌<◌, ◌≤◌, length, vec_len, slice_index_or};
 ghost use Rattle.nest.specs.Choosing.{worth_by};
+ghost use Rattle.nest.specs.Asking.{Askable, Answers};
 ghost use Rattle.nest.specs.Totals.{NestTotal, TotalOf, AppraisalOf};
 
-use crate::chains::Chains;
 use crate::fault::TotalFault;
 use crate::nest::Nest;
-use crate::worths::{Given, OwnPrices, Worths};
+use bids::Bid;
+use bids::limits::MAX_PACKAGES;
 use scales::{PricedScale, Scale};
 
-// Writes the unit into the first `count` places.
-fn clear<S: Scale>(work: &mut [S], count: usize)
-    requires { count ≤ length work.old }
-    ensures units { (k : ℕ) (d : S) → k < count → S.Scale.meaning (slice_index_or work.new k d) ≡ S.Scale.ring.unit }
-    ensures rest { drop count work.new ≡ drop count work.old }
+// Writes the unit into each place. (`fill` asks for a clone that cannot fail, which a scale does not promise.)
+fn clear<S: Scale>(places: &mut [S])
+    ensures { (k : ℕ) (d : S) → k < length places.old → S.Scale.meaning (slice_index_or places.new k d) ≡ S.Scale.ring.unit }
 {
-    for k in 0..count {
-        work[k] = S::unit();
+    for place in places.iter_mut() {
+        *place = S::unit();
     }
 }
 
 impl Nest {
     // One way up the nest, from the last package to the first: each package's own worths are added to the product of its children, which
     // is then multiplied into its parent's place.
-    pub(crate) fn total_from<S: Scale, W: Worths<S>>(&self, worths: &W, work: &mut [S]) -> S
-        requires worths { (n : ℕ) → n ≤ vec_len self.now.bids → W.Worths.has worths.now n }
+    pub(crate) fn total_from<S: Scale, F: Fn(usize, Bid) -> S>(&self, worth: F, work: &mut [S]) -> S
+        requires askable { Askable (F.pre worth) self.now.bids.items }
         requires room { vec_len self.now.parents ≤ length work.old }
-        ensures { NestTotal S.Scale.meaning S.Scale.ring self.now (worth_by S.Scale.meaning (W.Worths.at worths.now) self.now.bids.items) work.old work.new result }
+        ensures { (at : ℕ → Bid → S) → Answers S.Scale.meaning (F.post worth) self.now.bids.items at → NestTotal S.Scale.meaning S.Scale.ring self.now (worth_by S.Scale.meaning at self.now.bids.items) work.old work.new result }
     {
-        let parents = self.parents.as_slice();
-        let bids = self.bids.as_slice();
-        let chains = Chains::new(bids);
-        clear(work, parents.len());
+        // The sum of each package's own worths. It is an array with a place for each package of the largest sale, since a total cannot fail
+        // and so cannot allocate.
+        let mut own = [S::nought(); MAX_PACKAGES];
+        for (i, bid) in self.bids.iter().enumerate() {
+            if !bid.withdrawn {
+                let place = bid.package - 1;
+                own[place] = own[place].sum(worth(i + 1, *bid));
+            }
+        }
+        clear(&mut work[..self.parents.len()]);
         let mut result = S::unit();
-        for g in (0..parents.len()).rev() {
-            let whole = work[g].sum(chains.own_worth(bids, worths, g + 1));
+        for (g, parent) in self.parents.iter().enumerate().rev() {
+            let whole = work[g].sum(own[g]);
             work[g] = whole;
-            match parents[g] {
+            match *parent {
                 None => result = result.product(whole),
-                Some(p) => work[p - 1] = work[p - 1].product(whole),
+                Some(p) => {
+                    let place = &mut work[p - 1];
+                    *place = place.product(whole);
+                }
             }
         }
         result
@@ -54,7 +62,7 @@ impl Nest {
         if work.len() < self.parents.len() {
             return Err(TotalFault::Workspace);
         }
-        Ok(self.total_from(&Given { worths }, work))
+        Ok(self.total_from(|number, _| worths[number - 1], work))
     }
 
     // The total with the worths of the bids' own prices.
@@ -64,6 +72,6 @@ impl Nest {
         if self.parents.len() > work.len() {
             return Err(TotalFault::Workspace);
         }
-        Ok(self.total_from(&OwnPrices, work))
+        Ok(self.total_from(|_, bid| S::worth(u64::from(bid.price)), work))
     }
 }

@@ -1,135 +1,67 @@
-// The winning bids, found from the outermost packages down.
-ghost use Rattle.std.specs.Prelude.{◌≡◌, ◌+◌, ◌-◌, ◌<◌, ◌≤◌, not, ◌&&◌, ◌||◌, length, vec_len, ◌==◌};
-ghost use Rattle.scales.specs.Tied.{tied_of};
-ghost use Rattle.scales.specs.Lowest.{lowest_of};
-ghost use Rattle.contest.specs.Contest.{award as award_in};
-ghost use Rattle.contest.specs.Choices.{number_of};
-ghost use Rattle.contest.specs.Descent.{taken, Descends, wins, flag, Marks};
-ghost use Rattle.nest.specs.Placed.{Lower, Placed};
-ghost use Rattle.nest.specs.Contests.{parent_in, on_in, contest_of_nest};
-ghost use Rattle.nest.specs.Choosing.{low_in};
+// The winning bids of a nest, and what they come to.
+ghost use Rattle.std.specs.Prelude.{◌≡◌, ℕ, ◌≤◌, length, vec_len};
+ghost use Rattle.contest.specs.Contest.{award as award_in, sum_over};
+ghost use Rattle.contest.specs.Descent.{flag, Marks};
+ghost use Rattle.nest.specs.Contests.{contest_of_nest};
+ghost use Rattle.nest.specs.Choosing.{worth_by};
+ghost use Rattle.nest.specs.Asking.{Askable, Answers};
 ghost use Rattle.nest.specs.Awards.{Awarded};
 
+use crate::choices::Choices;
 use crate::fault::AwardFault;
 use crate::nest::Nest;
-use crate::tally::sum_up;
-use crate::worths::Choices;
 use bids::Bid;
-use bids::limits::MAX_PACKAGES;
-use scales::TOP_AMOUNT;
-use scales::lowest::Lowest;
-use scales::tied::Tied;
+use bids::limits::MAX_BIDS;
 
-// The lowest bid number in the best choices, or 0.
-fn lowest_number(best: Tied<Lowest>) -> usize
-    ensures { result ≡ number_of (tied_of lowest_of best) }
-{
-    match best {
-        Tied::Amount(amount, Lowest::Bid(number)) if amount < TOP_AMOUNT => number,
-        _ => 0,
+// For each bid of a nest whether it wins. An array, since what is asked of a nest does not fail for want of memory.
+#[derive(Drop)]
+pub(crate) struct Winners<'a> {
+    nest: &'a Nest,
+    wins: [bool; MAX_BIDS],
+    ghost are_award: { (k : ℕ) → 1 ≤ k → k ≤ vec_len nest.now.bids → flag wins k ≡ award_in (contest_of_nest nest.now) k },
+}
+
+impl<'a> Winners<'a> {
+    // A bid wins if its package is open, and no lower number is in a best choice there.
+    pub(crate) fn of(nest: &'a Nest) -> Winners<'a>
+        ensures { result.nest.now ≡ nest.now }
+    {
+        let choices = Choices::of(nest);
+        let opened = choices.opened();
+        let mut wins = [false; MAX_BIDS];
+        for (i, bid) in nest.bids.iter().enumerate() {
+            wins[i] = opened[bid.package - 1] && choices.lowest_in(bid.package) == Some(i + 1);
+        }
+        Winners { nest, wins }
     }
-}
 
-// The lowest bid number in the best choices on and inside package `g`, or 0.
-fn lowest_in(work: &[Tied<Lowest>], g: usize) -> usize
-    requires low { 1 ≤ g }
-    requires high { g ≤ length work.now }
-    ensures { result ≡ low_in work.now g }
-{
-    lowest_number(work[g - 1])
-}
-
-// The package of bid `k`.
-fn package_of(bids: &[Bid], k: usize) -> usize
-    requires low { 1 ≤ k }
-    requires high { k ≤ length bids.now }
-    ensures { result ≡ on_in bids.now k }
-{
-    bids[k - 1].package
-}
-
-// Whether the bid with the lowest number in any best choice inside package `g` lies on `g` itself.
-fn is_taken(work: &[Tied<Lowest>], bids: &[Bid], g: usize) -> bool
-    requires low { 1 ≤ g }
-    requires high { g ≤ length work.now }
-    ensures { result ≡ taken (length bids.now) (on_in bids.now) (low_in work.now) g }
-{
-    let bid = lowest_in(work, g);
-    bid >= 1 && bid <= bids.len() && package_of(bids, bid) == g
-}
-
-// Whether package `g` is open, from the flags of the packages before it.
-fn is_open(
-    parents: &[Option<usize>],
-    work: &[Tied<Lowest>],
-    bids: &[Bid],
-    opened: &[bool],
-    g: usize,
-) -> bool
-    requires low { 1 ≤ g }
-    requires high { g ≤ length parents.now }
-    requires room { length parents.now ≤ length work.now }
-    requires flags { length parents.now ≤ length opened.now }
-    requires nest { Lower parents.now }
-    ensures { result ≡ (parent_in parents.now g == 0 || (flag opened.now (parent_in parents.now g) && not (taken (length bids.now) (on_in bids.now) (low_in work.now) (parent_in parents.now g)))) }
-{
-    match parents[g - 1] {
-        None => true,
-        Some(parent) => opened[parent - 1] && !is_taken(work, bids, parent),
+    // The sum over the winning bids of `value`, which is asked about each with its number.
+    pub(crate) fn sum<F: Fn(usize, Bid) -> u32>(&self, value: F) -> u64
+        requires { Askable (F.pre value) self.now.nest.now.bids.items }
+        ensures { let c = contest_of_nest self.now.nest.now in (at : ℕ → Bid → ℕ) → Answers (λ v. v) (F.post value) self.now.nest.now.bids.items at → result ≡ sum_over c.count (award_in c) (worth_by (λ v. v) at self.now.nest.now.bids.items) }
+    {
+        let mut sum = 0;
+        for (i, bid) in self.nest.bids.iter().enumerate() {
+            if self.wins[i] {
+                sum += u64::from(value(i + 1, *bid));
+            }
+        }
+        sum
     }
-}
 
-// Opens the packages from the outermost down.
-fn descend(parents: &[Option<usize>], work: &[Tied<Lowest>], bids: &[Bid], opened: &mut [bool])
-    requires room { length parents.now ≤ length work.now }
-    requires flags { length parents.now ≤ length opened.old }
-    requires nest { Lower parents.now }
-    ensures { Descends (length bids.now) (length parents.now) (on_in bids.now) (parent_in parents.now) (low_in work.now) (flag opened.new) }
-{
-    for i in 0..parents.len() {
-        opened[i] = is_open(parents, work, bids, opened, i + 1);
-    }
-}
-
-// Whether bid `k` wins: its package is open, and no lower number is in a best choice there.
-fn is_winner(work: &[Tied<Lowest>], bids: &[Bid], opened: &[bool], k: usize) -> bool
-    requires placed { Placed (length work.now) bids.now }
-    requires flags { length work.now ≡ length opened.now }
-    requires low { 1 ≤ k }
-    requires high { k ≤ length bids.now }
-    ensures { result ≡ wins (on_in bids.now) (low_in work.now) (flag opened.now) k }
-{
-    let g = package_of(bids, k);
-    opened[g - 1] && lowest_in(work, g) == k
-}
-
-// Marks the winning bids by 1 and the others by 0.
-fn mark(work: &[Tied<Lowest>], bids: &[Bid], opened: &[bool], out: &mut [u8])
-    requires placed { Placed (length work.now) bids.now }
-    requires flags { length work.now ≡ length opened.now }
-    requires room { length bids.now ≤ length out.old }
-    ensures { Marks (length bids.now) (wins (on_in bids.now) (low_in work.now) (flag opened.now)) out.old out.new }
-{
-    for k in 0..bids.len() {
-        out[k] = is_winner(work, bids, opened, k + 1) as u8;
+    // Writes 1 for each winning bid and 0 for each other, and leaves later bytes: by the rules an award is a list of bytes. Bytes and
+    // flags have the same numbers, those of the bids; zipping them would say no more.
+    fn write(&self, out: &mut [u8])
+        requires { vec_len self.now.nest.now.bids ≤ length out.old }
+        ensures { let c = contest_of_nest self.now.nest.now in Marks c.count (award_in c) out.old out.new }
+    {
+        for (i, byte) in out[..self.nest.bids.len()].iter_mut().enumerate() {
+            *byte = u8::from(self.wins[i]);
+        }
     }
 }
 
 impl Nest {
-    // Writes 1 for each winning bid and 0 for each other, and leaves later bytes.
-    pub(crate) fn mark_award(&self, out: &mut [u8])
-        requires { vec_len self.now.bids ≤ length out.old }
-        ensures { Marks (contest_of_nest self.now).count (award_in (contest_of_nest self.now)) out.old out.new }
-    {
-        let parents = self.parents.as_slice();
-        let bids = self.bids.as_slice();
-        let mut work = [Tied::<Lowest>::Nothing; MAX_PACKAGES];
-        let mut opened = [false; MAX_PACKAGES];
-        let _ = self.total_from(&Choices, &mut work);
-        descend(parents, &work, bids, &mut opened);
-        mark(&work, bids, &opened, out);
-    }
-
     // Writes 1 for each winning bid and 0 for each other, bid 1 first, and answers the revenue and the number of winning bids.
     pub fn award(&self, out: &mut [u8]) -> Result<(u64, usize), AwardFault>
         ensures { Awarded (contest_of_nest self.now) out.old out.new result }
@@ -137,7 +69,11 @@ impl Nest {
         if out.len() < self.bids.len() {
             return Err(AwardFault::TooShort);
         }
-        self.mark_award(out);
-        Ok(sum_up(out, self.bids.as_slice()))
+        let winners = Winners::of(self);
+        winners.write(out);
+        Ok((
+            winners.sum(|_, bid| bid.price),
+            winners.sum(|_, _| 1) as usize,
+        ))
     }
 }

@@ -1,5 +1,5 @@
-use Rattle.std.proofs.Common.{◌≡◌, ℕ, ◌<◌, get_or, drop}
+use Rattle.std.proofs.Common.{◌≡◌, ℕ, ◌<◌, get_or}
 use Rattle.nest.proofs.totals.clear.Given as goal
 
-abbrev pub invariant-loop-k : goal.invariant-loop-k
-invariant-loop-k g l = ((h : ℕ) (d : _) → h < l.k → g.S.Scale.meaning (get_or l.work h d) ≡ g.S.Scale.ring.unit) × (drop l.count l.work ≡ drop l.count l.initial.work)
+abbrev pub invariant-loop-place : goal.invariant-loop-place
+invariant-loop-place g l = (k : ℕ) (d : _) → k < l.place-index → g.S.Scale.meaning (get_or l.places k d) ≡ g.S.Scale.ring.unit

@@ -1,106 +1,120 @@
-use Rattle.std.proofs.Common.{◌≡◌, suc, ◌+◌, ◌-◌, ◌<◌, ◌≤◌, true, length, refl, ap, ◌∙◌, subst, arith, drop-set-lt, rules}
+use Rattle.std.proofs.Common.{◌≡◌, ℕ, ◌+◌, ◌-◌, ◌<◌, ◌≤◌, ◌∷◌, length, get_or, sym, refl, ap, ◌∙◌, subst, arith, length-set, drop-set-lt, vec_len, vec_items, rules}
+use Rattle.bids.specs.declared.bid.Bid.{Bid}
+use Rattle.bids.specs.Bids.{no_bid}
 use Rattle.bids.specs.Limits.{max_packages}
-use Rattle.contest.specs.Nest.{part}
-use Rattle.contest.proofs.Places.{Passing, passing_start, passing_outermost, passing_inner, passing_end, passing_parts}
-use Rattle.nest.specs.Contests.{above, parent_in, on_in, nest_contest}
+use Rattle.nest.specs.Own.{own_in}
+use Rattle.nest.specs.Asking.{Answers}
+use Rattle.nest.proofs.Adding.{Summed, summed_none, summed_skips, summed_adds, summed_all}
 use Rattle.nest.specs.Choosing.{worth_by}
-use Rattle.nest.specs.Placed.{up_to}
-use Rattle.nest.proofs.Upward.{parent_first}
-use Rattle.nest.proofs.Placing.{placed_more}
-use Rattle.nest.proofs.Reading.{parents_few, bids_few, lower_of, placed_of, nested_of, total_of}
+use Rattle.nest.proofs.Turning.{next_left, passed_all, next_within, next_lower, turn_outermost, turn_inner}
 use Rattle.nest.proofs.nest.Nest.total_from.Goals as goal
+use Rattle.nest.proofs.nest.Nest.total_from.Goals.{In-Some, In-Some-parent, After-sum-whole, then-not-bid, else-not-bid}
+use Rattle.nest.proofs.nest.Nest.total_from.Given.{Over}
 
-pub loop-g-init : goal.loop-g-init
-loop-g-init g c =
+pub loop-i-init : goal.loop-i-init
+loop-i-init g c = record {
+  places = refl;
+  sums = λ at answers. summed_none g.S.Scale.meaning g.met.S.Scale.laws at (vec_items c.args.self.now.bids) max_packages _ c.nought-own.ensures;
+}
+
+pub loop-i-preserved : goal.loop-i-preserved
+loop-i-preserved g c =
     let s = g.S.Scale in
-    let ps = c.as_slice-parents.result.now in
-    let bs = c.as_slice-bids.result.now in
-    let nest = nested_of c.args.self.now ps bs c.as_slice-parents.ensures.value c.as_slice-bids.ensures.value in
-    (passing_start s.meaning g.met.S.Scale.laws (nest_contest ps bs) (parent_in ps) (on_in bs) (length ps) nest _ c.clear.new.work c.unit-result.result (omega arith) c.clear.ensures.units c.unit-result.ensures, refl)
+    let laws = g.met.S.Scale.laws in
+    let n = c.args.self.now in
+    let bids = vec_items n.bids in
+    let e = c.deref-bid-items.ensures.value in
+    let i = c.loop-i.i in
+    let inv = c.loop-i.invariant in
+    elim c.if-not-bid.branch [
+      | then-not-bid w ↦
+          let low = rw e at c.loop-i-test.true in
+          let t = n.bids_placed i low in
+          record {
+            places = ap length w.own-is ∙ length-set c.loop-i.own _ _ ∙ inv.places;
+            sums = λ at answers.
+                subst (λ own. Summed s.meaning s.ring at bids max_packages own (i + 1)) (sym w.own-is)
+                (summed_adds s.meaning laws at bids max_packages c.loop-i.own i (inv.sums at answers) _ _ _ _ (rw e at w.if-not-bid.true) (rw e refl) (rw e t.0) (rw e (omega arith)) (omega arith)
+                (answers i _ low (subst (λ bs. goal.F-post g c.args.worth (i + 1) (get_or bs i no_bid) w.worth.result) e w.worth.ensures)) w.sum.ensures);
+          }
+      | else-not-bid w ↦ record {
+        places = ap length w.own-is ∙ inv.places;
+        sums = λ at answers.
+            subst (λ own. Summed s.meaning s.ring at bids max_packages own (i + 1)) (sym w.own-is)
+            (summed_skips s.meaning laws at bids max_packages c.loop-i.own i (inv.sums at answers) (rw e at w.if-not-bid.false));
+      }
+    ]
 
--- the parent of a package is an earlier one
-pub offset_bounds-work-p-in-Some : goal.offset_bounds-work-p-in-Some
-offset_bounds-work-p-in-Some g c =
-    let ps = c.as_slice-parents.result.now in
-    let bs = c.as_slice-bids.result.now in
-    let at = c.loop-g.g - 1 in
-    let within : at < length ps = omega arith in
-    let room : length ps ≤ length c.loop-g.work = omega arith in
-    let lower = lower_of c.args.self.now ps bs c.as_slice-parents.ensures.value c.as_slice-bids.ensures.value in
-    let first = parent_first at c.in-Some.p (subst (λ o. up_to at o ≡ true) c.in-Some.is (lower at within)) in
-    let inside : c.in-Some.p - 1 < length c.loop-g.work = omega (arith, first.0, first.1, within, room) in
-    search rules
+-- the next package
+here : (g : Over) (c : In-Some g) → c.in-Some.g ≡ length c.next.new.self.iter.iter.rest.now
+here g c = omega (arith, c.in-Some.ensures.steps.1.1, c.loop-g.invariant.numbered)
 
-pub loop-g-preserved-in-None : goal.loop-g-preserved-in-None
-loop-g-preserved-in-None g c =
+within : (g : Over) (c : In-Some g) → c.in-Some.g < vec_len c.args.self.now.parents
+within g c = omega (arith, here g c, next_within c.args.self.now _ _ c.loop-g.invariant.done.0 _ c.in-Some.ensures.steps.1.0 c.loop-g.invariant.done.1)
+
+-- its own worths are added
+made : (g : Over) (c : After-sum-whole g) → c.in-Some.g < vec_len c.args.self.now.parents → (at : ℕ → Bid → _) → Answers g.S.Scale.meaning (goal.F-post g c.args.worth) (vec_items c.args.self.now.bids) at
+    → g.S.Scale.meaning c.sum-whole.result ≡ g.S.Scale.ring.add (g.S.Scale.meaning c.index-work-g.result) (own_in g.S.Scale.ring (vec_items c.args.self.now.bids) (worth_by g.S.Scale.meaning at (vec_items c.args.self.now.bids)) (c.in-Some.g + 1))
+made g c low at answers =
+    let high : c.in-Some.g < max_packages = omega (arith, low, c.args.self.now.packages_few) in
+    c.sum-whole.ensures
+    ∙ ap (g.S.Scale.ring.add (g.S.Scale.meaning c.index-work-g.result))
+    (summed_all g.S.Scale.meaning g.met.S.Scale.laws at (vec_items c.args.self.now.bids) max_packages c.loop-i.own c.loop-i.i (c.loop-i.invariant.sums at answers) (omega arith) c.in-Some.g c.index-own-g.result high)
+
+-- its parent is an earlier one
+lower : (g : Over) (c : In-Some-parent g) → (1 ≤ c.in-Some-parent.p) × (c.in-Some-parent.p - 1 < vec_len c.args.self.now.parents)
+lower g c =
+    let inv = c.loop-g.invariant in
+    let turn = c.in-Some.ensures.steps.1.0 in
+    let low = next_lower c.args.self.now _ _ inv.done.0 _ turn inv.done.1 c.in-Some-parent.p c.in-Some-parent.is in
+    (low.0, omega (arith, low.1, next_within c.args.self.now _ _ inv.done.0 _ turn inv.done.1))
+
+pub loop-g-preserved-in-None-parent : goal.loop-g-preserved-in-None-parent
+loop-g-preserved-in-None-parent g c =
     let s = g.S.Scale in
-    let ps = c.as_slice-parents.result.now in
-    let bs = c.as_slice-bids.result.now in
-    let nest = nested_of c.args.self.now ps bs c.as_slice-parents.ensures.value c.as_slice-bids.ensures.value in
-    let left = c.loop-g.g in
-    let is : left ≡ suc (left - 1) = omega (arith, c.loop-g-test.true) in
-    let high : left ≤ length ps = omega (arith, c.loop-g.auto.g) in
-    let room : length ps ≤ length c.loop-g.work = omega arith in
-    let within : left - 1 < length ps = omega (arith, is, high) in (
-      passing_outermost s.meaning g.met.S.Scale.laws (nest_contest ps bs) (parent_in ps) (on_in bs) (length ps) nest _
-          c.loop-g.work c.loop-g.result c.index-work-g.result c.sum-whole.result left (left - 1) is high room c.loop-g.invariant.0 c.index-work-g.is
-          (c.sum-whole.ensures ∙ ap (s.ring.add (s.meaning c.index-work-g.result)) c.own_worth.ensures)
-          c.product-result.result (ap above c.in-None.is) c.product-result.ensures,
-      drop-set-lt _ _ _ _ within ∙ c.loop-g.invariant.1,
-    )
+    let n = c.args.self.now in
+    let inv = c.loop-g.invariant in
+    let steps = c.in-Some.ensures.steps in
+    let some = (goal.at.loop-g-preserved-in-None-parent g c).In-Some in
+    record {
+      numbered = steps.0 ∙ inv.numbered;
+      done = (c.in-Some.parent.now ∷ inv.done.0, next_left n _ _ inv.done.0 _ steps.1.0 inv.done.1);
+      pass = λ at answers.
+          turn_outermost n _ _ inv.done.0 _ steps.1.0 inv.done.1 s.meaning g.met.S.Scale.laws (worth_by s.meaning at (vec_items n.bids))
+          c.loop-g.work c.loop-g.result _ _ c.in-Some.g (here g some) (omega arith) (inv.pass at answers) c.index-work-g.is
+          (made g (goal.at.loop-g-preserved-in-None-parent g c).After-sum-whole (within g some) at answers)
+          c.product-result.result c.in-None-parent.is c.product-result.ensures;
+      further = drop-set-lt _ c.loop-g.work _ _ (within g some) ∙ inv.further;
+    }
 
 pub loop-g-preserved : goal.loop-g-preserved
 loop-g-preserved g c =
     let s = g.S.Scale in
-    let ps = c.as_slice-parents.result.now in
-    let bs = c.as_slice-bids.result.now in
-    let nest = nested_of c.args.self.now ps bs c.as_slice-parents.ensures.value c.as_slice-bids.ensures.value in
-    let left = c.loop-g.g in
-    let is : left ≡ suc (left - 1) = omega (arith, c.loop-g-test.true) in
-    let high : left ≤ length ps = omega (arith, c.loop-g.auto.g) in
-    let room : length ps ≤ length c.loop-g.work = omega arith in
-    let within : left - 1 < length ps = omega (arith, is, high) in
-    let p = c.in-Some.p in
-    let lower = lower_of c.args.self.now ps bs c.as_slice-parents.ensures.value c.as_slice-bids.ensures.value in
-    let first = parent_first (left - 1) p (subst (λ o. up_to (left - 1) o ≡ true) c.in-Some.is (lower (left - 1) within)) in
-    let up : p ≡ suc (p - 1) = omega (arith, first.0) in
-    let beyond : p - 1 < length ps = omega (arith, first.1, within) in (
-      passing_inner s.meaning g.met.S.Scale.laws (nest_contest ps bs) (parent_in ps) (on_in bs) (length ps) nest _
-          c.loop-g.work c.loop-g.result c.index-work-g.result c.sum-whole.result left (left - 1) is high room c.loop-g.invariant.0 c.index-work-g.is
-          (c.sum-whole.ensures ∙ ap (s.ring.add (s.meaning c.index-work-g.result)) c.own_worth.ensures)
-          (p - 1) c.index-work-p.result c.product.result (ap above c.in-Some.is ∙ up) c.index-work-p.is c.product.ensures,
-      drop-set-lt _ _ _ _ beyond ∙ drop-set-lt _ _ _ _ within ∙ c.loop-g.invariant.1,
-    )
+    let n = c.args.self.now in
+    let inv = c.loop-g.invariant in
+    let steps = c.in-Some.ensures.steps in
+    let some = (goal.at.loop-g-preserved g c).In-Some in
+    record {
+      numbered = steps.0 ∙ inv.numbered;
+      done = (c.in-Some.parent.now ∷ inv.done.0, next_left n _ _ inv.done.0 _ steps.1.0 inv.done.1);
+      pass = λ at answers.
+          turn_inner n _ _ inv.done.0 _ steps.1.0 inv.done.1 s.meaning g.met.S.Scale.laws (worth_by s.meaning at (vec_items n.bids))
+          c.loop-g.work c.loop-g.result _ _ c.in-Some.g (here g some) (omega arith) (inv.pass at answers) c.index-work-g.is
+          (made g (goal.at.loop-g-preserved g c).After-sum-whole (within g some) at answers)
+          c.in-Some-parent.p c.index-work-p.result c.product.result c.in-Some-parent.is c.product.ensures;
+      further = drop-set-lt _ _ _ _ (lower g (goal.at.loop-g-preserved g c).In-Some-parent).1 ∙ drop-set-lt _ c.loop-g.work _ _ (within g some) ∙ inv.further;
+    }
+
+pub overflow_sub-place-in-Some-parent : goal.overflow_sub-place-in-Some-parent
+overflow_sub-place-in-Some-parent g c = (lower g c).0
+
+pub bounds-work-p : goal.bounds-work-p
+bounds-work-p g c = let low = lower g c in simp length-set (omega arith)
+
+pub offset_bounds-work-p : goal.offset_bounds-work-p
+offset_bounds-work-p g c = let low = lower g c in let in_work : c.in-Some-parent.p - 1 < length c.loop-g.work = omega arith in search rules
 
 pub returns : goal.returns
-returns g c =
-    let s = g.S.Scale in
-    let laws = g.met.S.Scale.laws in
-    let n = c.args.self.now in
-    let ps = c.as_slice-parents.result.now in
-    let bs = c.as_slice-bids.result.now in
-    let eps = c.as_slice-parents.ensures.value in
-    let ebs = c.as_slice-bids.ensures.value in
-    let w = worth_by s.meaning (g.W.Worths.at c.args.worths.now) bs in
-    let over : c.loop-g.g ≡ 0 = omega (arith, c.loop-g-test.false) in
-    let nest = nested_of n ps bs eps ebs in
-    let pass : Passing s.meaning s.ring (nest_contest ps bs) (parent_in ps) (on_in bs) (length ps) w c.loop-g.work c.loop-g.result 0 =
-    subst (Passing s.meaning s.ring (nest_contest ps bs) (parent_in ps) (on_in bs) (length ps) w c.loop-g.work c.loop-g.result) over c.loop-g.invariant.0 in
-    total_of n ps bs eps ebs s.meaning s.ring (worth_by s.meaning (g.W.Worths.at c.args.worths.now)) _ _ _
-    (record {
-      total = passing_end s.meaning laws (nest_contest ps bs) (parent_in ps) (on_in bs) (length ps) nest w c.loop-g.work c.loop-g.result pass;
-      places = λ k d low high.
-          let next : k - 1 + 1 ≡ k = omega arith in
-          passing_parts s.meaning laws (nest_contest ps bs) (parent_in ps) (on_in bs) (length ps) nest w c.loop-g.work c.loop-g.result pass (k - 1) d (omega (arith, low, high))
-          ∙ ap (part s.ring (nest_contest ps bs) (on_in bs) w (parent_in ps)) next;
-      further = c.loop-g.invariant.1 ∙ c.clear.ensures.rest;
-    })
-
-pub new-chains-requires : goal.new-chains-requires
-new-chains-requires g c =
-    let n = c.args.self.now in
-    let ps = c.as_slice-parents.result.now in
-    let bs = c.as_slice-bids.result.now in
-    let eps = c.as_slice-parents.ensures.value in
-    let ebs = c.as_slice-bids.ensures.value in
-    record { placed = placed_more (length ps) max_packages bs (parents_few n ps bs eps ebs) (placed_of n ps bs eps ebs); few = bids_few n ps bs eps ebs }
+returns g c at answers =
+    passed_all g.S.Scale.meaning g.met.S.Scale.laws c.args.self.now (worth_by g.S.Scale.meaning at (vec_items c.args.self.now.bids)) _ _ _ _ c.in-None.ensures.steps.1.0
+    (c.loop-g.invariant.pass at answers) c.loop-g.invariant.further

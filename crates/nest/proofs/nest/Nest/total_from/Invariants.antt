@@ -1,11 +1,29 @@
-use Rattle.std.proofs.Common.{◌≡◌, length, drop}
-use Rattle.contest.proofs.Places.{Passing}
-use Rattle.nest.specs.Contests.{parent_in, on_in, nest_contest}
+use Rattle.std.proofs.Common.{◌≡◌, ℕ, List, ◌++◌, length, drop, Option, vec_len, vec_items}
+use Rattle.bids.specs.declared.bid.Bid.{Bid}
+use Rattle.bids.specs.Limits.{max_packages}
 use Rattle.nest.specs.Choosing.{worth_by}
+use Rattle.nest.specs.Asking.{Answers}
+use Rattle.nest.proofs.Adding.{Summed}
+use Rattle.nest.proofs.Turning.{Passed}
 use Rattle.nest.proofs.nest.Nest.total_from.Given as goal
 
+abbrev pub invariant-loop-i : goal.invariant-loop-i
+invariant-loop-i g l =
+    let s = g.S.Scale in
+    record {
+      places : length l.own ≡ max_packages;
+      sums : (at : ℕ → Bid → _) → Answers s.meaning (goal.F-post g l.worth) (vec_items l.self.bids) at → Summed s.meaning s.ring at (vec_items l.self.bids) max_packages l.own l.i;
+    }
+
+-- The iterator has the packages that are still to do.
 abbrev pub invariant-loop-g : goal.invariant-loop-g
 invariant-loop-g g l =
     let s = g.S.Scale in
-    Passing s.meaning s.ring (nest_contest l.parents l.bids) (parent_in l.parents) (on_in l.bids) (length l.parents) (worth_by s.meaning (g.W.Worths.at l.worths) l.bids) l.work l.result l.g
-    × (drop (length l.parents) l.work ≡ drop (length l.parents) l.initial.work)
+    let left = l.g-iterator.iter.iter.rest.now in
+    record {
+      numbered : l.g-iterator.iter.count ≡ 0;
+      done : (after : List (Option ℕ)) × (left ++ after ≡ vec_items l.self.parents);
+      pass : (at : ℕ → Bid → _) → Answers s.meaning (goal.F-post g l.fn.worth) (vec_items l.self.bids) at
+          → Passed s.meaning s.ring l.self (worth_by s.meaning at (vec_items l.self.bids)) l.work l.result (length left);
+      further : drop (vec_len l.self.parents) l.work ≡ drop (vec_len l.self.parents) l.fn.work;
+    }

@@ -1,9 +1,0 @@
-use Rattle.std.proofs.Common.{◌≡◌, ◌*◌, ◌≤◌}
-use Rattle.contest.specs.Contest.{sum_over}
-use Rattle.nest.specs.Contests.{price_in}
-use Rattle.nest.specs.Choosing.{marked_others, u32_max}
-use Rattle.nest.proofs.tally.others_sum.Given as goal
-
-abbrev pub invariant-loop-k : goal.invariant-loop-k
-invariant-loop-k l =
-    (l.sum ≡ sum_over l.k (marked_others l.marks l.bids l.buyer) (price_in l.bids)) × (l.sum ≤ l.k * u32_max)
