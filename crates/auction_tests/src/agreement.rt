@@ -1,6 +1,6 @@
 // What a sale answers, held against the brute force.
-use crate::brute_force::{Appraisals, Found, Offer, bids_within, charge, go_through, sums};
-use crate::opening::{Case, as_masks, as_runs, offers, open};
+use crate::brute_force::{Appraisals, BidSet, Found, Offer, charge, go_through};
+use crate::opening::{Case, as_masks, as_runs};
 use bids::limits::MAX_PACKAGES;
 use packages::{Mask, Package};
 use sale::Sale;
@@ -14,6 +14,9 @@ const PLACES: usize = 9;
 
 // What stands in a place beforehand.
 const MARK: u64 = 77;
+
+// What stands in a byte of the award beforehand.
+const BYTE: u8 = 9;
 
 // Appraisals in each scale.
 pub(crate) fn check_appraisals<P: Package>(
@@ -36,132 +39,113 @@ pub(crate) fn check_appraisals<P: Package>(
     Ok(())
 }
 
-// The worths of a total in Count: 1 for each bid, as an appraisal has them, or the prices.
+// A small sale, and the same for the brute force: its bids, and its packages as sets of lots.
 #[derive(Clone, Copy)]
-enum Worths {
-    Ones,
-    Prices,
+struct Checked<'a, P: Package> {
+    sale: &'a Sale<P>,
+    offers: &'a [Offer],
+    packages: &'a [Mask],
 }
 
-// The places of a workspace: for each package the total of the bids on it and inside it, and then what stood there before.
-fn check_places(
-    rt: &impl Abort,
-    work: &[Count],
-    offers: &[Offer],
-    packages: &[Mask],
-    worths: Worths,
-) {
-    for (g, place) in work.iter().enumerate() {
-        let expected = match packages.get(g) {
-            Some(package) => {
-                let found = go_through(offers, bids_within(offers, package.bits));
-                match worths {
-                    Worths::Ones => found.appraisals.count,
-                    Worths::Prices => found.products.min(TOP_COUNT),
-                }
-            }
-            None => MARK,
-        };
-        assert_eq!(rt; place.value(), expected);
-    }
-}
-
-// The total in Count of the prices as worths, and the workspaces of this total and of the appraisal.
-fn check_totals<P: Package>(
-    rt: &impl Abort,
-    heap: Global,
-    sale: &Sale<P>,
-    offers: &[Offer],
-    packages: &[Mask],
-    found: &Found,
-) -> Result<(), Fail> {
-    let mut worths = Vec::new(heap);
-    for offer in offers {
-        worths.push(Count {
-            number: offer.price,
-        })?;
-    }
-    let mut work = [Count { number: MARK }; PLACES];
-    let total = sale.total(worths.as_slice(), &mut work)?;
-    assert_eq!(rt; total.value(), found.products.min(TOP_COUNT));
-    check_places(rt, &work, offers, packages, Worths::Prices);
-    let mut work = [Count { number: MARK }; PLACES];
-    sale.appraise(&mut work)?;
-    check_places(rt, &work, offers, packages, Worths::Ones);
-    Ok(())
-}
-
-// The bytes of the award and its three numbers.
-fn check_award<P: Package>(
-    rt: &impl Abort,
-    sale: &Sale<P>,
-    offers: &[Offer],
-    found: &Found,
-) -> Result<(), Fail> {
-    let mut bytes = [9; 8];
-    let (revenue, winners, lots) = sale.award(&mut bytes)?;
-    for (k, byte) in bytes.iter().enumerate() {
-        let expected = match offers.get(k) {
-            Some(offer) => u8::from(found.award & offer.bit != 0),
-            None => 9,
-        };
-        assert_eq!(rt; *byte, expected);
-    }
-    let (_, _, sold) = sums(offers, found.award);
-    assert_eq!(rt; revenue, found.appraisals.revenue);
-    assert_eq!(rt; winners, found.award.count_ones() as usize);
-    assert_eq!(rt; lots, u64::from(sold.count_ones()));
-    Ok(())
-}
-
-// The charges of buyers with bids and without.
-fn check_charges<P: Package>(rt: &impl Abort, sale: &Sale<P>, offers: &[Offer]) {
-    for buyer in 1..=6 {
-        match sale.charge(buyer) {
-            Ok(crowns) => assert_eq!(rt; Some(crowns), charge(offers, buyer)),
-            Err(fault) => {
-                assert_eq!(rt; fault.refusal(), (32, 0));
-                assert_eq!(rt; charge(offers, buyer), None);
-            }
+impl<P: Package> Checked<'_, P> {
+    // The places of a workspace: for each package what is expected of the bids on it and inside it, and then what stood there before.
+    fn check_places<F: Fn(Found) -> u64>(self, rt: &impl Abort, work: &[Count], expected: F)
+        requires { F.IsAlwaysCallable expected }
+    {
+        for (place, package) in work.iter().zip(self.packages) {
+            let lots = package.bits;
+            let within = BidSet::of(self.offers, |offer| offer.lots & lots == offer.lots);
+            assert_eq!(rt; place.value(), expected(within.go_through()));
+        }
+        for place in work.iter().skip(self.packages.len()) {
+            assert_eq!(rt; place.value(), MARK);
         }
     }
+
+    // The total in Count of the prices as worths, and the workspaces of this total and of the appraisal, in which each bid is worth 1.
+    fn check_totals(self, rt: &impl Abort, heap: Global, found: &Found) -> Result<(), Fail> {
+        let worths: Vec<Count> = self
+            .offers
+            .iter()
+            .map(|offer| Count {
+                number: offer.price,
+            })
+            .collect(heap)?;
+        let mut work = [Count { number: MARK }; PLACES];
+        let total = self.sale.total(worths.as_slice(), &mut work)?;
+        assert_eq!(rt; total.value(), found.products.min(TOP_COUNT));
+        self.check_places(rt, &work, |found| found.products.min(TOP_COUNT));
+        let mut work = [Count { number: MARK }; PLACES];
+        self.sale.appraise(&mut work)?;
+        self.check_places(rt, &work, |found| found.appraisals.count);
+        Ok(())
+    }
+
+    // The bytes of the award and its three numbers.
+    fn check_award(self, rt: &impl Abort, found: &Found) -> Result<(), Fail> {
+        let mut bytes = [BYTE; 8];
+        let (revenue, winners, lots) = self.sale.award(&mut bytes)?;
+        for (byte, offer) in bytes.iter().zip(self.offers) {
+            assert_eq!(rt; *byte, u8::from(found.award.has(offer)));
+        }
+        for byte in bytes.iter().skip(self.offers.len()) {
+            assert_eq!(rt; *byte, BYTE);
+        }
+        assert_eq!(rt; revenue, found.appraisals.revenue);
+        assert_eq!(rt; winners, found.award.bits.count_ones() as usize);
+        assert_eq!(rt; lots, u64::from(found.award.lots().count_ones()));
+        Ok(())
+    }
+
+    // The charges of buyers with bids and without.
+    fn check_charges(self, rt: &impl Abort) {
+        for buyer in 1..=6 {
+            let answer = self.sale.charge(buyer).map_err(|fault| fault.refusal());
+            assert_eq!(rt; answer, charge(self.offers, buyer).ok_or((32, 0)));
+        }
+    }
+
+    // All that a sale answers.
+    fn check(self, rt: &impl Abort, heap: Global) -> Result<(), Fail> {
+        let found = go_through(self.offers);
+        check_appraisals(rt, self.sale, &found.appraisals)?;
+        self.check_totals(rt, heap, &found)?;
+        self.check_award(rt, &found)?;
+        self.check_charges(rt);
+        Ok(())
+    }
 }
 
-// All that a sale answers.
-pub(crate) fn check_sale<P: Package>(
+// A small sale, held against the brute force, to which its packages are sets of lots.
+fn check_on<P: Package>(
     rt: &impl Abort,
     heap: Global,
-    sale: &Sale<P>,
-    offers: &[Offer],
+    case: Case<'_, P>,
     packages: &[Mask],
 ) -> Result<(), Fail> {
-    let found = go_through(offers, u32::MAX);
-    check_appraisals(rt, sale, &found.appraisals)?;
-    check_totals(rt, heap, sale, offers, packages, &found)?;
-    check_award(rt, sale, offers, &found)?;
-    check_charges(rt, sale, offers);
-    Ok(())
+    let sale = case.open(heap)?;
+    let offers = case.on(packages).offers(heap)?;
+    let checked = Checked {
+        sale: &sale,
+        offers: offers.as_slice(),
+        packages,
+    };
+    checked.check(rt, heap)
 }
 
 // A small sale of masks.
-pub(crate) fn check_masks(
-    rt: &impl Abort,
-    heap: Global,
-    masks: &[Mask],
-    bids: &[(u32, u32, usize)],
-    withdrawn: &[usize],
-) -> Result<(), Fail> {
-    let offers = offers(heap, masks, bids, withdrawn)?;
-    let sale = open(heap, masks, bids, withdrawn)?;
-    check_sale(rt, heap, &sale, offers.as_slice(), masks)
+pub(crate) fn check_masks(rt: &impl Abort, heap: Global, case: Case<'_, Mask>) -> Result<(), Fail> {
+    check_on(rt, heap, case, case.packages)
 }
 
 // A small sale, as one of runs and as one of masks.
-pub(crate) fn check_case(rt: &impl Abort, heap: Global, case: Case<'_>) -> Result<(), Fail> {
-    let runs = as_runs(heap, case.runs)?;
-    let masks = as_masks(heap, case.runs)?;
-    let offers = offers(heap, masks.as_slice(), case.bids, case.withdrawn)?;
-    let sale = open(heap, runs.as_slice(), case.bids, case.withdrawn)?;
-    check_sale(rt, heap, &sale, offers.as_slice(), masks.as_slice())?;
-    check_masks(rt, heap, masks.as_slice(), case.bids, case.withdrawn)
+pub(crate) fn check_case(
+    rt: &impl Abort,
+    heap: Global,
+    case: Case<'_, (u16, u16)>,
+) -> Result<(), Fail> {
+    let masks = as_masks(heap, case.packages)?;
+    let runs = as_runs(heap, case.packages)?;
+    check_on(rt, heap, case.on(runs.as_slice()), masks.as_slice())?;
+    check_masks(rt, heap, case.on(masks.as_slice()))
 }

@@ -16,6 +16,79 @@ pub const MOST_OFFERS: usize = 6;
 // The number of sets of so many bids.
 const SETS: u32 = 64;
 
+// Some of the bids of a sale.
+#[derive(Clone, Copy)]
+pub struct BidSet<'a> {
+    pub offers: &'a [Offer],
+    pub bits: u32,
+}
+
+impl<'a> BidSet<'a> {
+    // The bids that pass a test.
+    pub(crate) fn of<F: Fn(Offer) -> bool>(offers: &'a [Offer], passes: F) -> BidSet<'a>
+        requires { F.IsAlwaysCallable passes }
+    {
+        let mut bits = 0;
+        for offer in offers {
+            if passes(*offer) {
+                bits |= offer.bit;
+            }
+        }
+        BidSet { offers, bits }
+    }
+
+    pub(crate) fn has(self, offer: &Offer) -> bool {
+        self.bits & offer.bit != 0
+    }
+
+    // Whether all bids of the set stand, and no two of them share a lot.
+    fn is_clash_free(self) -> bool {
+        let mut taken: u64 = 0;
+        for offer in self.offers {
+            if self.has(offer) {
+                if !offer.stands || taken & offer.lots != 0 {
+                    return false;
+                }
+                taken |= offer.lots;
+            }
+        }
+        true
+    }
+
+    // Whether the lowest bid that is in only one of the two sets is in this one.
+    fn is_preferred(self, other: BidSet<'a>) -> bool {
+        let lowest = self
+            .offers
+            .iter()
+            .find(|offer| self.has(offer) != other.has(offer));
+        lowest.is_some_and(|offer| self.has(offer))
+    }
+
+    // The prices, added.
+    pub(crate) fn revenue(self) -> u64 {
+        self.offers
+            .iter()
+            .filter(|offer| self.has(offer))
+            .fold(0, |sum: u64, offer| sum.saturating_add(offer.price))
+    }
+
+    // The prices, multiplied.
+    fn product(self) -> u64 {
+        self.offers.iter().filter(|offer| self.has(offer)).fold(
+            1,
+            |product: u64, offer| product.saturating_mul(offer.price),
+        )
+    }
+
+    // The lots that the bids have together.
+    pub(crate) fn lots(self) -> u64 {
+        self.offers
+            .iter()
+            .filter(|offer| self.has(offer))
+            .fold(0, |lots: u64, offer| lots | offer.lots)
+    }
+}
+
 // The appraisals of a sale, over its clash-free sets.
 #[derive(Clone, Copy, PartialEq)]
 pub struct Appraisals {
@@ -30,74 +103,12 @@ pub struct Appraisals {
 
 // What is found over the clash-free sets.
 #[derive(Clone, Copy)]
-pub struct Found {
+pub struct Found<'a> {
     pub appraisals: Appraisals,
     // Their products of prices, added.
     pub products: u64,
     // Of the sets with the greatest revenue, the preferred one.
-    pub award: u32,
-}
-
-// Whether all bids of the set stand, and no two of them share a lot.
-fn is_clash_free(offers: &[Offer], set: u32) -> bool {
-    let mut taken: u64 = 0;
-    for offer in offers {
-        if set & offer.bit != 0 {
-            if !offer.stands || taken & offer.lots != 0 {
-                return false;
-            }
-            taken |= offer.lots;
-        }
-    }
-    true
-}
-
-// Whether the lowest bid that is in only one of the two sets is in the first.
-fn is_preferred(offers: &[Offer], set: u32, other: u32) -> bool {
-    for offer in offers {
-        let only = (set ^ other) & offer.bit;
-        if only != 0 {
-            return set & only != 0;
-        }
-    }
-    false
-}
-
-// The bids of one buyer.
-pub(crate) fn bids_of(offers: &[Offer], buyer: u32) -> u32 {
-    let mut set = 0;
-    for offer in offers {
-        if offer.buyer == buyer {
-            set |= offer.bit;
-        }
-    }
-    set
-}
-
-// The bids on these lots or on some of them only.
-pub(crate) fn bids_within(offers: &[Offer], lots: u64) -> u32 {
-    let mut set = 0;
-    for offer in offers {
-        if offer.lots & lots == offer.lots {
-            set |= offer.bit;
-        }
-    }
-    set
-}
-
-// The prices of a set, added and multiplied, and its lots.
-pub(crate) fn sums(offers: &[Offer], set: u32) -> (u64, u64, u64) {
-    let mut revenue: u64 = 0;
-    let mut product: u64 = 1;
-    let mut lots = 0;
-    for offer in offers {
-        if set & offer.bit != 0 {
-            revenue = revenue.saturating_add(offer.price);
-            product = product.saturating_mul(offer.price);
-            lots |= offer.lots;
-        }
-    }
-    (revenue, product, lots)
+    pub award: BidSet<'a>,
 }
 
 // Three amounts in falling order, with one more put into its place.
@@ -115,34 +126,33 @@ fn with_amount(top: [Option<u64>; 3], amount: u64) -> [Option<u64>; 3] {
     }
 }
 
-// Goes through the sets of bids that have none but those of `allowed`.
-pub(crate) fn go_through(offers: &[Offer], allowed: u32) -> Found {
-    let mut found = Found {
-        appraisals: Appraisals {
-            count: 0,
-            revenue: 0,
-            ways: 0,
-            top: [None, None, None],
-        },
-        products: 0,
-        award: 0,
-    };
-    let mut numbered = 0;
-    for offer in offers {
-        numbered |= offer.bit;
-    }
-    for set in 0..SETS {
-        if set & numbered & allowed == set && is_clash_free(offers, set) {
-            found = found.with_set(offers, set);
+impl<'a> BidSet<'a> {
+    // Goes through the clash-free sets of these bids.
+    pub(crate) fn go_through(self) -> Found<'a> {
+        let mut found = Found {
+            appraisals: Appraisals {
+                count: 0,
+                revenue: 0,
+                ways: 0,
+                top: [None, None, None],
+            },
+            products: 0,
+            award: BidSet { bits: 0, ..self },
+        };
+        for bits in 0..SETS {
+            let set = BidSet { bits, ..self };
+            if bits & self.bits == bits && set.is_clash_free() {
+                found = found.with_set(set);
+            }
         }
+        found
     }
-    found
 }
 
-impl Found {
+impl<'a> Found<'a> {
     // With one more clash-free set.
-    fn with_set(self, offers: &[Offer], set: u32) -> Found {
-        let (revenue, product, _) = sums(offers, set);
+    fn with_set(self, set: BidSet<'a>) -> Found<'a> {
+        let revenue = set.revenue();
         let best = self.appraisals.revenue;
         let is_new = revenue > best;
         let is_tied = revenue == best;
@@ -158,8 +168,8 @@ impl Found {
                 },
                 top: with_amount(self.appraisals.top, revenue),
             },
-            products: self.products.saturating_add(product),
-            award: if is_new || is_tied && is_preferred(offers, set, self.award) {
+            products: self.products.saturating_add(set.product()),
+            award: if is_new || is_tied && set.is_preferred(self.award) {
                 set
             } else {
                 self.award
@@ -168,15 +178,23 @@ impl Found {
     }
 }
 
+// What is found over the clash-free sets of all bids.
+pub(crate) fn go_through<'a>(offers: &'a [Offer]) -> Found<'a> {
+    BidSet::of(offers, |_| true).go_through()
+}
+
 // What the buyer pays: the greatest revenue without his bids, less what the others' winning bids bring, which is never more.
 // None where he has no numbered bid.
 pub(crate) fn charge(offers: &[Offer], buyer: u32) -> Option<u64> {
-    let his = bids_of(offers, buyer);
-    if his == 0 {
+    let others = BidSet::of(offers, |offer| offer.buyer != buyer);
+    if offers.iter().all(|offer| others.has(offer)) {
         return None;
     }
-    let award = go_through(offers, u32::MAX).award;
-    let without = go_through(offers, !his).appraisals.revenue;
-    let (others, _, _) = sums(offers, award & !his);
-    Some(without.wrapping_sub(others))
+    let without = others.go_through().appraisals.revenue;
+    let award = go_through(offers).award;
+    let kept = BidSet {
+        bits: award.bits & others.bits,
+        ..award
+    };
+    Some(without.wrapping_sub(kept.revenue()))
 }

@@ -1,12 +1,10 @@
 // Two sales compared for a buyer: whether the same bids stand and clash, and what he gains at each.
-use crate::opening::{as_masks, as_runs, open};
+use crate::opening::{Case, PAIR, as_masks, as_runs};
 use nest::ChargeFault;
 use packages::{Mask, Run};
 use sale::{Comparison, compare_sales};
 use scales::Count;
 use std::test::Fail;
-
-const NEST: [(u16, u16); 3] = [(1, 2), (1, 1), (2, 2)];
 
 // Buyer 2, to whom his bid is worth 6, bids 6 in a sale of runs and another price in one of masks.
 fn compared(
@@ -16,20 +14,20 @@ fn compared(
     there: &[usize],
     buyer: u32,
 ) -> Result<Result<Comparison, ChargeFault>, Fail> {
-    let runs = as_runs(rt.alloc(), &NEST)?;
-    let masks = as_masks(rt.alloc(), &NEST)?;
-    let first = open(
-        rt.alloc(),
-        runs.as_slice(),
-        &[(1, 10, 1), (2, 6, 2), (3, 5, 3)],
-        here,
-    )?;
-    let second = open(
-        rt.alloc(),
-        masks.as_slice(),
-        &[(1, 10, 1), (2, price, 2), (3, 5, 3)],
-        there,
-    )?;
+    let runs = as_runs(rt.alloc(), &PAIR)?;
+    let masks = as_masks(rt.alloc(), &PAIR)?;
+    let first = Case {
+        packages: runs.as_slice(),
+        bids: &[(1, 10, 1), (2, 6, 2), (3, 5, 3)],
+        withdrawn: here,
+    };
+    let second = Case {
+        packages: masks.as_slice(),
+        bids: &[(1, 10, 1), (2, price, 2), (3, 5, 3)],
+        withdrawn: there,
+    };
+    let first = first.open(rt.alloc())?;
+    let second = second.open(rt.alloc())?;
     Ok(compare_sales::<Run, Mask, Count>(&first, &second, buyer))
 }
 
@@ -47,10 +45,12 @@ const COMPARED: [(u32, &[usize], &[usize], bool, i128, i128); 6] = [
 #[test]
 fn gains_are_at_the_first_prices(rt: HostRuntime) -> Result<(), Fail> {
     for (price, here, there, same, first, second) in COMPARED {
-        let found = compared(&rt, price, here, there, 2)??;
-        assert_eq!(rt; found.same, same);
-        assert_eq!(rt; found.first_gain, first);
-        assert_eq!(rt; found.second_gain, second);
+        let expected = Comparison {
+            same,
+            first_gain: first,
+            second_gain: second,
+        };
+        assert_eq!(rt; compared(&rt, price, here, there, 2)?, Ok(expected));
     }
     Ok(())
 }
@@ -62,10 +62,7 @@ fn a_buyer_without_a_charge_is_refused(rt: HostRuntime) -> Result<(), Fail> {
         (1000, ChargeFault::Buyer),
         (4, ChargeFault::NoBid),
     ] {
-        match compared(&rt, 6, &[], &[], buyer)? {
-            Ok(_) => return Err(Fail::new("accepted")),
-            Err(found) => assert!(rt; found == fault),
-        }
+        assert_eq!(rt; compared(&rt, 6, &[], &[], buyer)?, Err(fault));
     }
     Ok(())
 }

@@ -4,7 +4,7 @@ use crate::agreement::check_appraisals;
 use crate::brute_force::Appraisals;
 use bids::limits::{HIGHEST_BUYER, HIGHEST_PRICE, MAX_BIDS, MAX_PACKAGES};
 use packages::Run;
-use sale::Sale;
+use sale::{LodgeFault, PermitFault, Sale};
 use scales::{BestThree, PricedScale, Revenue, Scale, TOP_COUNT};
 use std::process::Abort;
 use std::test::Fail;
@@ -16,9 +16,7 @@ const SECOND: u32 = HIGHEST_BUYER as u32;
 fn largest(rt: &HostRuntime, deep: bool) -> Result<Sale<Run>, Fail> {
     let heap = rt.alloc();
     let table = vec![in heap; Run { first: 0, last: 0 }; MAX_PACKAGES]?;
-    let Ok(mut sale) = Sale::new(heap, 256, table) else {
-        return Err(Fail::new("no memory"));
-    };
+    let mut sale = Sale::new(heap, 256, table).map_err(|_| Fail::new("no memory"))?;
     for first in 1..=256 {
         let last = if deep { 256 } else { first };
         sale.permit(Run { first, last })?;
@@ -72,8 +70,11 @@ fn check_award(rt: &impl Abort, sale: &Sale<Run>, expected: &Expected) -> Result
     let mut bytes = [9; MAX_BIDS];
     let answers = sale.award(&mut bytes)?;
     assert!(rt; answers == (expected.appraisals.revenue, expected.winners, expected.lots));
-    for (k, byte) in bytes.iter().enumerate() {
-        assert_eq!(rt; *byte, u8::from(k < expected.winners));
+    for byte in bytes.iter().take(expected.winners) {
+        assert_eq!(rt; *byte, 1);
+    }
+    for byte in bytes.iter().skip(expected.winners) {
+        assert_eq!(rt; *byte, 0);
     }
     // without the first buyer the second brings as much, and without the second the first
     assert_eq!(rt; sale.charge(1)?, expected.appraisals.revenue);
@@ -87,14 +88,10 @@ fn largest_sales(rt: HostRuntime) -> Result<(), Fail> {
         let mut sale = largest(&rt, expected.deep)?;
         check_appraisals(&rt, &sale, &expected.appraisals)?;
         check_award(&rt, &sale, &expected)?;
-        let Err(fault) = sale.permit(Run { first: 2, last: 2 }) else {
-            return Err(Fail::new("a package too many"));
-        };
-        assert_eq!(rt; fault.refusal(), (24, 0));
-        let Err(fault) = sale.lodge(1, 1, 1) else {
-            return Err(Fail::new("a bid too many"));
-        };
-        assert_eq!(rt; fault.refusal(), (29, 0));
+        let package_more = sale.permit(Run { first: 2, last: 2 });
+        assert_eq!(rt; package_more.map_err(PermitFault::refusal), Err((24, 0)));
+        let bid_more = sale.lodge(1, 1, 1);
+        assert_eq!(rt; bid_more.map_err(LodgeFault::refusal), Err((29, 0)));
         check_award(&rt, &sale, &expected)?;
     }
     Ok(())

@@ -52,7 +52,7 @@ fn check_made(rt: &(impl Abort + AllocGlobal), runs: &[(u16, u16)], seed: u64) -
         rt,
         rt.alloc(),
         Case {
-            runs,
+            packages: runs,
             bids: &bids,
             withdrawn,
         },

@@ -8,98 +8,87 @@ use std::test::Fail;
 // The lots of a small sale.
 pub const LOTS: u32 = 16;
 
-// A small sale: its packages as first and last lot, its bids as buyer, price and package, and the numbers of the bids that are withdrawn.
+// Two lots, together and apart: the packages of most worked sales.
+pub const PAIR: [(u16, u16); 3] = [(1, 2), (1, 1), (2, 2)];
+
+// A small sale: its packages, its bids as buyer, price and package, and the numbers of the bids that are withdrawn.
+// In tables a package is its first and last lot.
 #[derive(Clone, Copy)]
-pub struct Case<'a> {
-    pub runs: &'a [(u16, u16)],
+pub struct Case<'a, P> {
+    pub packages: &'a [P],
     pub bids: &'a [(u32, u32, usize)],
     pub withdrawn: &'a [usize],
 }
 
-// The lots from first to last, as a mask.
-pub(crate) fn lots_of((first, last): (u16, u16)) -> u64 {
-    let mut lots = 0;
-    let mut bit: u64 = 1;
-    for lot in 1..=16 {
-        if first <= lot && lot <= last {
-            lots |= bit;
+impl<'a, P: Copy> Case<'a, P> {
+    // The same bids on packages of another kind.
+    pub(crate) fn on<Q>(self, packages: &'a [Q]) -> Case<'a, Q> {
+        Case {
+            packages,
+            bids: self.bids,
+            withdrawn: self.withdrawn,
         }
-        bit = bit.wrapping_mul(2);
     }
-    lots
 }
 
-// A sale of these packages with these bids, of which some are then withdrawn.
-pub(crate) fn open<P: Package>(
-    heap: Global,
-    packages: &[P],
-    bids: &[(u32, u32, usize)],
-    withdrawn: &[usize],
-) -> Result<Sale<P>, Fail> {
-    let mut table = Vec::new(heap);
-    for package in packages {
-        table.push(*package)?;
+impl<'a, P: Package> Case<'a, P> {
+    // A sale of these packages with these bids, of which some are then withdrawn.
+    pub(crate) fn open(self, heap: Global) -> Result<Sale<P>, Fail> {
+        let mut table = Vec::new(heap);
+        table.extend_from_slice(self.packages)?;
+        let mut sale = Sale::new(heap, LOTS, table).map_err(|_| Fail::new("no memory"))?;
+        for package in self.packages {
+            sale.permit(*package)?;
+        }
+        for (buyer, price, package) in self.bids {
+            sale.lodge(*buyer, *price, *package)?;
+        }
+        for number in self.withdrawn {
+            sale.withdraw(*number)?;
+        }
+        Ok(sale)
     }
-    let Ok(mut sale) = Sale::new(heap, LOTS, table) else {
-        return Err(Fail::new("no memory"));
-    };
-    for package in packages {
-        sale.permit(*package)?;
-    }
-    for (buyer, price, package) in bids {
-        sale.lodge(*buyer, *price, *package)?;
-    }
-    for number in withdrawn {
-        sale.withdraw(*number)?;
-    }
-    Ok(sale)
 }
 
-// The packages as runs.
+impl Case<'_, Mask> {
+    // The bids for the brute force.
+    pub(crate) fn offers(self, heap: Global) -> Result<Vec<Offer>, AllocError> {
+        let mut offers = Vec::new(heap);
+        for ((buyer, price, package), number) in self.bids.iter().zip(1u32..) {
+            let mask = self.packages.get(package.wrapping_sub(1));
+            offers.push(Offer {
+                bit: 1u32.wrapping_shl(number.wrapping_sub(1)),
+                buyer: *buyer,
+                price: u64::from(*price),
+                lots: mask.map_or(0, |mask| mask.bits),
+                stands: !self.withdrawn.contains(&(number as usize)),
+            })?;
+        }
+        Ok(offers)
+    }
+}
+
+// The lots from first to last, as a set.
+fn lots_of(first: u16, last: u16) -> u64 {
+    (1..=LOTS as u16)
+        .filter(|lot| first <= *lot && *lot <= last)
+        .fold(0, |lots: u64, lot| {
+            lots | 1u64.wrapping_shl(u32::from(lot.wrapping_sub(1)))
+        })
+}
+
+// The packages as runs. This and `as_masks` have a line each, which a function over both kinds would not shorten.
 pub(crate) fn as_runs(heap: Global, runs: &[(u16, u16)]) -> Result<Vec<Run>, AllocError> {
-    let mut packages = Vec::new(heap);
-    for (first, last) in runs {
-        packages.push(Run {
-            first: *first,
-            last: *last,
-        })?;
-    }
-    Ok(packages)
+    runs.iter()
+        .map(|&(first, last)| Run { first, last })
+        .collect(heap)
 }
 
 // The same packages as masks.
 pub(crate) fn as_masks(heap: Global, runs: &[(u16, u16)]) -> Result<Vec<Mask>, AllocError> {
-    let mut packages = Vec::new(heap);
-    for run in runs {
-        packages.push(Mask {
-            bits: lots_of(*run),
-        })?;
-    }
-    Ok(packages)
-}
-
-// The bids for the brute force, on packages that are given as sets of lots.
-pub(crate) fn offers(
-    heap: Global,
-    packages: &[Mask],
-    bids: &[(u32, u32, usize)],
-    withdrawn: &[usize],
-) -> Result<Vec<Offer>, AllocError> {
-    let mut offers = Vec::new(heap);
-    let mut bit: u32 = 1;
-    for (k, (buyer, price, package)) in bids.iter().enumerate() {
-        let lots = match packages.get(package.wrapping_sub(1)) {
-            Some(mask) => mask.bits,
-            None => 0,
-        };
-        offers.push(Offer {
-            bit,
-            buyer: *buyer,
-            price: u64::from(*price),
-            lots,
-            stands: !withdrawn.contains(&k.wrapping_add(1)),
-        })?;
-        bit = bit.wrapping_mul(2);
-    }
-    Ok(offers)
+    runs.iter()
+        .map(|&(first, last)| Mask {
+            bits: lots_of(first, last),
+        })
+        .collect(heap)
 }

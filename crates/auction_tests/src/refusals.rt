@@ -1,7 +1,7 @@
 // Refused calls, the memory that they leave, and the lengths that are just enough and more than enough.
 // The sale has three packages and three bids; every place of a list and of a workspace holds a number of its own beforehand.
-use crate::opening::{as_runs, open};
-use nest::TotalFault;
+use crate::opening::{Case, PAIR, as_runs};
+use nest::{AwardFault, ChargeFault, TotalFault};
 use packages::Run;
 use sale::Sale;
 use scales::Count;
@@ -11,36 +11,26 @@ const BEFORE: [u64; 4] = [71, 72, 73, 74];
 
 fn opened(rt: &HostRuntime) -> Result<Sale<Run>, Fail> {
     let heap = rt.alloc();
-    let runs = as_runs(heap, &[(1, 2), (1, 1), (2, 2)])?;
-    open(
-        heap,
-        runs.as_slice(),
-        &[(1, 10, 1), (2, 6, 2), (3, 5, 3)],
-        &[],
-    )
+    let runs = as_runs(heap, &PAIR)?;
+    let case = Case {
+        packages: runs.as_slice(),
+        bids: &[(1, 10, 1), (2, 6, 2), (3, 5, 3)],
+        withdrawn: &[],
+    };
+    case.open(heap)
 }
 
 fn counts(numbers: [u64; 4]) -> [Count; 4] {
-    let [a, b, c, d] = numbers;
-    [
-        Count { number: a },
-        Count { number: b },
-        Count { number: c },
-        Count { number: d },
-    ]
+    numbers.map(|number| Count { number })
 }
 
 fn numbers(values: [Count; 4]) -> [u64; 4] {
-    let [a, b, c, d] = values;
-    [a.value(), b.value(), c.value(), d.value()]
+    values.map(Count::value)
 }
 
 // The total, or the number and place by which it is refused.
-fn answer(res: Result<Count, TotalFault>) -> Result<u64, (u8, usize)> {
-    match res {
-        Ok(value) => Ok(value.value()),
-        Err(fault) => Err(fault.refusal()),
-    }
+fn answer(total: Result<Count, TotalFault>) -> Result<u64, (u8, usize)> {
+    total.map(Count::value).map_err(TotalFault::refusal)
 }
 
 // Total with so many worths 1, 2, 3, 4 and so many places: its answer, and the places afterwards.
@@ -106,11 +96,8 @@ fn award_is_refused(rt: HostRuntime) -> Result<(), Fail> {
     for (length, expected, after) in AWARDS {
         let mut bytes = [6, 7, 8, 9];
         assert!(rt; length <= 4);
-        let result = match sale.award(&mut bytes[0..length]) {
-            Ok(answers) => Ok(answers),
-            Err(fault) => Err(fault.refusal()),
-        };
-        assert!(rt; result == expected);
+        let result = sale.award(&mut bytes[0..length]);
+        assert!(rt; result.map_err(AwardFault::refusal) == expected);
         assert!(rt; bytes == after);
     }
     Ok(())
@@ -132,11 +119,7 @@ const CHARGES: [(u32, Result<u64, (u8, usize)>); 8] = [
 fn charge_is_refused(rt: HostRuntime) -> Result<(), Fail> {
     let sale = opened(&rt)?;
     for (buyer, expected) in CHARGES {
-        let result = match sale.charge(buyer) {
-            Ok(crowns) => Ok(crowns),
-            Err(fault) => Err(fault.refusal()),
-        };
-        assert!(rt; result == expected);
+        assert!(rt; sale.charge(buyer).map_err(ChargeFault::refusal) == expected);
     }
     Ok(())
 }

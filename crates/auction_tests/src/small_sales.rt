@@ -1,11 +1,8 @@
 // Tables of small sales.
 use crate::agreement::{check_case, check_masks};
-use crate::opening::Case;
+use crate::opening::{Case, PAIR};
 use packages::Mask;
 use std::test::Fail;
-
-// Two lots, together and apart.
-const PAIR: [(u16, u16); 3] = [(1, 2), (1, 1), (2, 2)];
 
 // Halves and their halves.
 const TREE: [(u16, u16); 7] = [(1, 4), (1, 2), (1, 1), (2, 2), (3, 4), (3, 3), (4, 4)];
@@ -37,65 +34,65 @@ const WIDE: [(u16, u16); 8] = [
 // Three outermost packages; some lots are in no package inside them, or in none at all.
 const APART: [(u16, u16); 6] = [(1, 3), (2, 2), (6, 10), (6, 7), (9, 10), (12, 12)];
 
-const CASES: [Case<'static>; 37] = [
+const CASES: [Case<'static, (u16, u16)>; 37] = [
     // no packages, and so no bids
     Case {
-        runs: &[],
+        packages: &[],
         bids: &[],
         withdrawn: &[],
     },
     // no bids
     Case {
-        runs: &PAIR,
+        packages: &PAIR,
         bids: &[],
         withdrawn: &[],
     },
     // one bid, on the whole or on a part, and the same withdrawn
     Case {
-        runs: &PAIR,
+        packages: &PAIR,
         bids: &[(1, 7, 1)],
         withdrawn: &[],
     },
     Case {
-        runs: &PAIR,
+        packages: &PAIR,
         bids: &[(1, 7, 3)],
         withdrawn: &[],
     },
     Case {
-        runs: &PAIR,
+        packages: &PAIR,
         bids: &[(1, 7, 3)],
         withdrawn: &[1],
     },
     // parts that bring more than the block, and less
     Case {
-        runs: &PAIR,
+        packages: &PAIR,
         bids: &[(1, 10, 1), (2, 6, 2), (3, 5, 3)],
         withdrawn: &[],
     },
     Case {
-        runs: &PAIR,
+        packages: &PAIR,
         bids: &[(1, 12, 1), (2, 6, 2), (3, 5, 3)],
         withdrawn: &[],
     },
     // a block equal to the sum of its parts: before them, after them and between them
     Case {
-        runs: &PAIR,
+        packages: &PAIR,
         bids: &[(1, 11, 1), (2, 6, 2), (3, 5, 3)],
         withdrawn: &[],
     },
     Case {
-        runs: &PAIR,
+        packages: &PAIR,
         bids: &[(2, 6, 2), (3, 5, 3), (1, 11, 1)],
         withdrawn: &[],
     },
     Case {
-        runs: &PAIR,
+        packages: &PAIR,
         bids: &[(2, 6, 2), (1, 11, 1), (3, 5, 3)],
         withdrawn: &[],
     },
     // all prices equal: on one package, and on a block and its parts
     Case {
-        runs: &PAIR,
+        packages: &PAIR,
         bids: &[
             (1, 5, 1),
             (2, 5, 1),
@@ -107,7 +104,7 @@ const CASES: [Case<'static>; 37] = [
         withdrawn: &[],
     },
     Case {
-        runs: &PAIR,
+        packages: &PAIR,
         bids: &[
             (1, 5, 1),
             (2, 5, 2),
@@ -120,7 +117,7 @@ const CASES: [Case<'static>; 37] = [
     },
     // two blocks that tie with one bid and two parts
     Case {
-        runs: &PAIR,
+        packages: &PAIR,
         bids: &[
             (1, 2, 2),
             (2, 4, 1),
@@ -133,7 +130,7 @@ const CASES: [Case<'static>; 37] = [
     },
     // chains of blocks, each equal to the sum of its parts: from the outermost, and from the innermost
     Case {
-        runs: &TREE,
+        packages: &TREE,
         bids: &[
             (1, 4, 1),
             (2, 2, 2),
@@ -145,7 +142,7 @@ const CASES: [Case<'static>; 37] = [
         withdrawn: &[],
     },
     Case {
-        runs: &TREE,
+        packages: &TREE,
         bids: &[
             (4, 1, 3),
             (5, 1, 4),
@@ -157,7 +154,7 @@ const CASES: [Case<'static>; 37] = [
         withdrawn: &[],
     },
     Case {
-        runs: &TREE,
+        packages: &TREE,
         bids: &[
             (1, 2, 5),
             (2, 1, 4),
@@ -170,7 +167,7 @@ const CASES: [Case<'static>; 37] = [
     },
     // a deep nest: all prices equal, rising inward, falling inward, and bids at its two ends only
     Case {
-        runs: &DEEP,
+        packages: &DEEP,
         bids: &[
             (1, 3, 8),
             (2, 3, 6),
@@ -182,7 +179,7 @@ const CASES: [Case<'static>; 37] = [
         withdrawn: &[],
     },
     Case {
-        runs: &DEEP,
+        packages: &DEEP,
         bids: &[
             (1, 1, 1),
             (2, 2, 2),
@@ -194,7 +191,7 @@ const CASES: [Case<'static>; 37] = [
         withdrawn: &[],
     },
     Case {
-        runs: &DEEP,
+        packages: &DEEP,
         bids: &[
             (1, 6, 1),
             (2, 5, 2),
@@ -206,13 +203,13 @@ const CASES: [Case<'static>; 37] = [
         withdrawn: &[6],
     },
     Case {
-        runs: &DEEP,
+        packages: &DEEP,
         bids: &[(1, 4, 8), (2, 4, 1), (3, 4, 8), (1, 5, 1)],
         withdrawn: &[4],
     },
     // a wide nest: one bid on each of six packages, and two equal ones on each of three
     Case {
-        runs: &WIDE,
+        packages: &WIDE,
         bids: &[
             (1, 1, 1),
             (2, 2, 2),
@@ -224,7 +221,7 @@ const CASES: [Case<'static>; 37] = [
         withdrawn: &[],
     },
     Case {
-        runs: &WIDE,
+        packages: &WIDE,
         bids: &[
             (1, 3, 2),
             (2, 3, 2),
@@ -237,23 +234,23 @@ const CASES: [Case<'static>; 37] = [
     },
     // several bids of one buyer on one package
     Case {
-        runs: &PAIR,
+        packages: &PAIR,
         bids: &[(1, 4, 2), (1, 6, 2), (1, 5, 2), (2, 3, 2)],
         withdrawn: &[],
     },
     Case {
-        runs: &PAIR,
+        packages: &PAIR,
         bids: &[(1, 4, 2), (1, 4, 2), (1, 4, 2)],
         withdrawn: &[],
     },
     Case {
-        runs: &PAIR,
+        packages: &PAIR,
         bids: &[(1, 4, 2), (1, 6, 2), (1, 5, 2), (2, 3, 2)],
         withdrawn: &[2],
     },
     // a buyer with several winning bids, one with all of them, and one with none
     Case {
-        runs: &WIDE,
+        packages: &WIDE,
         bids: &[
             (1, 5, 1),
             (1, 6, 2),
@@ -265,7 +262,7 @@ const CASES: [Case<'static>; 37] = [
         withdrawn: &[],
     },
     Case {
-        runs: &TREE,
+        packages: &TREE,
         bids: &[
             (1, 5, 3),
             (1, 5, 4),
@@ -277,7 +274,7 @@ const CASES: [Case<'static>; 37] = [
         withdrawn: &[],
     },
     Case {
-        runs: &TREE,
+        packages: &TREE,
         bids: &[
             (2, 1, 3),
             (1, 5, 2),
@@ -290,40 +287,40 @@ const CASES: [Case<'static>; 37] = [
     },
     // a buyer on a block and on a part of it
     Case {
-        runs: &PAIR,
+        packages: &PAIR,
         bids: &[(1, 10, 1), (1, 6, 2), (3, 5, 3)],
         withdrawn: &[],
     },
     // withdrawn bids: a winner, all of a buyer, all of them
     Case {
-        runs: &PAIR,
+        packages: &PAIR,
         bids: &[(1, 10, 1), (2, 6, 2), (3, 5, 3)],
         withdrawn: &[3],
     },
     Case {
-        runs: &PAIR,
+        packages: &PAIR,
         bids: &[(1, 10, 1), (2, 6, 2), (3, 5, 3), (2, 9, 3), (4, 5, 2)],
         withdrawn: &[4, 2],
     },
     Case {
-        runs: &TREE,
+        packages: &TREE,
         bids: &[(1, 9, 1), (2, 4, 2), (2, 4, 5), (3, 1, 4)],
         withdrawn: &[1, 2, 3, 4],
     },
     // a tie that a withdrawal makes, and one that it breaks
     Case {
-        runs: &PAIR,
+        packages: &PAIR,
         bids: &[(1, 11, 1), (2, 6, 2), (3, 5, 3), (4, 9, 3)],
         withdrawn: &[4],
     },
     Case {
-        runs: &PAIR,
+        packages: &PAIR,
         bids: &[(1, 11, 1), (2, 6, 2), (3, 5, 3), (4, 5, 3)],
         withdrawn: &[3],
     },
     // two outermost packages and one between them
     Case {
-        runs: &APART,
+        packages: &APART,
         bids: &[
             (1, 5, 1),
             (2, 5, 2),
@@ -335,7 +332,7 @@ const CASES: [Case<'static>; 37] = [
         withdrawn: &[],
     },
     Case {
-        runs: &APART,
+        packages: &APART,
         bids: &[
             (1, 2, 6),
             (1, 3, 4),
@@ -348,7 +345,7 @@ const CASES: [Case<'static>; 37] = [
     },
     // the highest price
     Case {
-        runs: &TREE,
+        packages: &TREE,
         bids: &[
             (1, 1_000_000_000, 1),
             (2, 500_000_000, 2),
@@ -427,8 +424,14 @@ const ON_GAPS: [[(u32, u32, usize); 6]; 5] = [
 #[test]
 fn sales_of_masks_agree(rt: HostRuntime) -> Result<(), Fail> {
     for bids in ON_GAPS {
-        check_masks(&rt, rt.alloc(), &GAPS, &bids, &[])?;
-        check_masks(&rt, rt.alloc(), &GAPS, &bids, &[2, 5])?;
+        for withdrawn in [&[], [2, 5].as_slice()] {
+            let case = Case {
+                packages: &GAPS,
+                bids: &bids,
+                withdrawn,
+            };
+            check_masks(&rt, rt.alloc(), case)?;
+        }
     }
     Ok(())
 }

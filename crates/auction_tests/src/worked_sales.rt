@@ -1,16 +1,13 @@
 // The worked sales of the rules, with the answers that the rules give or that follow from them by hand.
 // The brute force has to find these answers, and the library those of the brute force.
 use crate::agreement::{check_case, check_masks};
-use crate::brute_force::{Appraisals, charge, go_through, sums};
-use crate::opening::{Case, as_masks, as_runs, offers, open};
+use crate::brute_force::{Appraisals, charge, go_through};
+use crate::opening::{Case, PAIR, as_masks, as_runs};
 use packages::Mask;
 use scales::{Count, Scale, TOP_COUNT};
 use std::alloc::Global;
 use std::process::Abort;
 use std::test::Fail;
-
-// The packages of most worked sales.
-const NEST: [(u16, u16); 3] = [(1, 2), (1, 1), (2, 2)];
 
 // A sale's bids as buyer, price and package, and its withdrawn bids; and what it answers.
 #[derive(Clone, Copy)]
@@ -23,6 +20,17 @@ struct Worked<'a> {
     lots_sold: u32,
     // What buyers 1, 2 and 3 pay; none without a numbered bid.
     charges: [Option<u64>; 3],
+}
+
+impl<'a> Worked<'a> {
+    // Its bids on these packages.
+    fn on<P>(&self, packages: &'a [P]) -> Case<'a, P> {
+        Case {
+            packages,
+            bids: self.bids,
+            withdrawn: self.withdrawn,
+        }
+    }
 }
 
 const SALE_1: Worked<'static> = Worked {
@@ -162,22 +170,20 @@ fn check_found(
     masks: &[Mask],
     worked: &Worked<'_>,
 ) -> Result<(), Fail> {
-    let offers = offers(heap, masks, worked.bids, worked.withdrawn)?;
+    let offers = worked.on(masks).offers(heap)?;
     let offers = offers.as_slice();
-    let found = go_through(offers, u32::MAX);
+    let found = go_through(offers);
     assert!(rt; found.appraisals == worked.appraisals);
-    assert_eq!(rt; found.award, worked.award);
-    let (_, _, lots) = sums(offers, found.award);
-    assert_eq!(rt; lots.count_ones(), worked.lots_sold);
-    let charges = [charge(offers, 1), charge(offers, 2), charge(offers, 3)];
-    assert!(rt; charges == worked.charges);
+    assert_eq!(rt; found.award.bits, worked.award);
+    assert_eq!(rt; found.award.lots().count_ones(), worked.lots_sold);
+    assert!(rt; [1, 2, 3].map(|buyer| charge(offers, buyer)) == worked.charges);
     Ok(())
 }
 
 #[test]
 fn worked_sales(rt: HostRuntime) -> Result<(), Fail> {
     let heap = rt.alloc();
-    let masks = as_masks(heap, &NEST)?;
+    let masks = as_masks(heap, &PAIR)?;
     for worked in [
         SALE_1,
         SALE_2,
@@ -189,15 +195,10 @@ fn worked_sales(rt: HostRuntime) -> Result<(), Fail> {
         SALE_7_LOWER,
     ] {
         check_found(&rt, heap, masks.as_slice(), &worked)?;
-        let case = Case {
-            runs: &NEST,
-            bids: worked.bids,
-            withdrawn: worked.withdrawn,
-        };
-        check_case(&rt, heap, case)?;
+        check_case(&rt, heap, worked.on(&PAIR))?;
     }
     check_found(&rt, heap, &WITH_GAP, &SALE_WITH_GAP)?;
-    check_masks(&rt, heap, &WITH_GAP, SALE_WITH_GAP.bids, &[])
+    check_masks(&rt, heap, SALE_WITH_GAP.on(&WITH_GAP))
 }
 
 // Worked sale 7: what buyer 2, who has bid 2, gains where it is worth 6 to him.
@@ -214,8 +215,13 @@ fn gains_of_a_buyer(rt: HostRuntime) {
 #[test]
 fn counts_are_cut(rt: HostRuntime) -> Result<(), Fail> {
     let heap = rt.alloc();
-    let runs = as_runs(heap, &NEST)?;
-    let sale = open(heap, runs.as_slice(), &[(1, 1, 2), (2, 1, 3)], &[])?;
+    let runs = as_runs(heap, &PAIR)?;
+    let case = Case {
+        packages: runs.as_slice(),
+        bids: &[(1, 1, 2), (2, 1, 3)],
+        withdrawn: &[],
+    };
+    let sale = case.open(heap)?;
     for (worths, total) in [
         ([39_999, 39_999], TOP_COUNT),
         ([31_621, 31_621], 999_950_884),
@@ -223,8 +229,7 @@ fn counts_are_cut(rt: HostRuntime) -> Result<(), Fail> {
         ([999_999_997, 0], TOP_COUNT - 1),
         ([u64::MAX, u64::MAX], TOP_COUNT),
     ] {
-        let [first, second] = worths;
-        let worths = [Count { number: first }, Count { number: second }];
+        let worths = worths.map(|number| Count { number });
         let value = sale.total(&worths, &mut [Count::nought(); 3])?;
         assert_eq!(rt; value.value(), total);
     }

@@ -31,9 +31,6 @@ unopposed (Some c) a n e = absurd (no_refusal (conflict_refusal c) n e)
 -- permit
 
 module _ (b : Book) (s : Lots) (fits : fits_in b.lots s ≡ true) where
-  pub no_space : b.space ≤ length b.packages → permit_answer b s ≡ refused (24, 0)
-  no_space full = rw (fits, le-ltb (length b.packages) b.space full)
-
   pub conflicts : (c : Conflict) → length b.packages < b.space → conflict_from 1 s b.packages ≡ Some c → permit_answer b s ≡ refused (conflict_refusal c)
   conflicts c room e = rw (fits, lt-ltb (length b.packages) b.space room, e)
 

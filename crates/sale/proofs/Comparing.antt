@@ -1,16 +1,17 @@
 -- Two sales compared bid by bid.
-use Rattle.std.proofs.Common.{◌≡◌, ℕ, suc, ◌-◌, ◌<◌, ◌≤◌, Bool, true, false, not, ◌≢◌, List, map, length, get_or, sym, refl, ap, ◌∙◌, subst, ap₂, inl, inr, ⊎_elim, true≢false, arith}
+use Rattle.std.proofs.Common.{◌≡◌, ℕ, suc, ◌+◌, ◌-◌, ◌<◌, ◌≤◌, Bool, true, false, not, ◌≢◌, List, length, get_or, sym, refl, ap, ◌∙◌, subst, ap₂, inl, inr, ⊎_elim, true≢false, arith}
 use mathlib.Core.Bool.{false≢true}
+use Rattle.std.specs.Bool.{MatchBool}
+use Rattle.std.specs.List.{AllWithin, HoldsAt, range_with_len}
+use Rattle.std.proofs.lemmas.List.FromFn.{length-range_with_len, get_or-range_with_len}
 use Rattle.std.proofs.lemmas.Bool.{cases_lt, cases_Bool, not_from_false}
 use Rattle.packages.specs.declared.relation.Relation.{Relation}
 use Rattle.packages.specs.declared.relation.Relation.TheVariants.{Equal, Inside, Around, Apart, Crossing}
 use Rattle.packages.specs.Lots.{Lots, has, apart}
 use Rattle.packages.specs.Sets.{Stands}
 use Rattle.packages.specs.Nest.{relation_of}
-use Rattle.packages.specs.Places.{package_at, no_lots}
 use Rattle.packages.specs.SetsLemmas.{stands_so, apart_says, apart_from}
 use Rattle.contest.specs.Telling.{Same}
-use Rattle.contest.proofs.Listing.{get_or_mapped}
 use Rattle.bids.specs.declared.bid.Bid.{Bid}
 use Rattle.bids.specs.Bids.{no_bid, bid_at}
 use Rattle.books.specs.Book.{Book}
@@ -18,10 +19,6 @@ use Rattle.books.specs.Nested.{Sound}
 use Rattle.books.specs.Contests.{contest_of, lots_of}
 use Rattle.books.proofs.Promised.{clash_sym}
 use Rattle.sale.specs.Compared.{shares, clash_in, AlikeAt}
-
--- a package read by its place
-pub read_package : {P : Type 0} (m : P → Lots) (packages : List P) (g : ℕ) (p : P) → g - 1 < length packages → p ≡ get_or packages (g - 1) p → m p ≡ package_at (map m packages) g
-read_package m packages g p low read = ap m read ∙ sym (get_or_mapped m packages (g - 1) no_lots p low)
 
 -- Sets that are not empty share a lot unless they are apart.
 pub shares_is : (s t : Lots) (i j : ℕ) → has s i ≡ true → has t j ≡ true → shares (relation_of s t) ≡ not (apart s t)
@@ -94,3 +91,23 @@ module _ (b d : Book) (sb : Sound b) (sd : Sound d) where
 pub alike_moved : {ts ts' us us' : List Lots} {xs xs' ys ys' : List Bid} (k : ℕ) → ts ≡ ts' → us ≡ us' → xs ≡ xs' → ys ≡ ys' → AlikeAt ts us xs ys k → AlikeAt ts' us' xs' ys' k
 alike_moved {ts' = ts'} {us} {us'} {xs} {xs'} {ys} {ys'} k p q r s a =
     subst (λ y. AlikeAt ts' us' xs' y k) s (subst (λ x. AlikeAt ts' us' x ys k) r (subst (λ u. AlikeAt ts' u xs ys k) q (subst (λ t. AlikeAt t us xs ys k) p a)))
+
+-- an answer for all numbers below n
+pub decided_below : (P : ℕ → Type 0) (r : Bool) (n : ℕ)
+    → MatchBool r (AllWithin P (range_with_len 0 n) 0 (length (range_with_len 0 n))) ((k : ℕ) × (k < length (range_with_len 0 n)) × HoldsAt (λ x. P x → ⊥) (range_with_len 0 n) k)
+    → (r ≡ true → (k : ℕ) → k < n → P k) × (((k : ℕ) → k < n → P k) → r ≡ true)
+decided_below P true n h = (
+  λ _ k low.
+      let many = length-range_with_len 0 n in
+      let at : 0 + k ≡ k = omega arith in
+      subst P (get_or-range_with_len 0 n k 0 low ∙ at) (h k 0 (omega arith) (omega (arith, many))),
+  λ _. refl,
+)
+decided_below P false n h = (
+  λ e. absurd (false≢true e),
+  λ all.
+      let many = length-range_with_len 0 n in
+      let low : h.0 < n = omega (arith, many, h.1) in
+      let at : h.0 ≡ 0 + h.0 = omega arith in
+      absurd (h.2 0 (subst P (at ∙ sym (get_or-range_with_len 0 n h.0 0 low)) (all h.0 low))),
+)

@@ -1,28 +1,24 @@
 -- The entry of a list with a number.
-use Rattle.std.proofs.Common.{◌≡◌, ℕ, zero, suc, ◌-◌, ◌<◌, ◌≤◌, ◌⊎◌, List, [], ◌∷◌, map, length, get_or, Some, None, refl, ap, ◌∙◌, inl, inr, arith}
-use Rattle.std.specs.Option.{option_map}
+use Rattle.std.proofs.Common.{◌≡◌, ℕ, zero, suc, ◌-◌, ◌≤◌, List, length, get_or, unwrap_or, inl, inr, Some, None, Option, refl, ap, ◌∙◌, arith}
+use Rattle.std.proofs.lemmas.Option.{slice_get_past, unwrap_or-slice_get}
+use Rattle.std.specs.List.{slice_get}
+use Rattle.std.specs.Option.{option_flatten}
+use Rattle.std.proofs.lemmas.Bool.{cases_lt}
 use Rattle.sale.specs.Questions.{numbered}
 
-pub numbered_none : {X : Type 0} (xs : List X) (n : ℕ) → (n < 1) ⊎ (length xs < n) → None ≡ numbered xs n
-numbered_none [] n h = refl
-numbered_none (x ∷ xs) zero h = refl
-numbered_none (x ∷ xs) (suc zero) (inl h) = absurd (omega arith)
-numbered_none (x ∷ xs) (suc zero) (inr h) = absurd (omega arith)
-numbered_none (x ∷ xs) (suc (suc n)) (inl h) = absurd (omega arith)
-numbered_none (x ∷ xs) (suc (suc n)) (inr h) = numbered_none xs (suc n) (inr (omega arith))
+flat_is : {X : Type 0} (o : Option (Option X)) → option_flatten o ≡ unwrap_or o None
+flat_is None = refl
+flat_is (Some x) = refl
 
-numbered_at : {X : Type 0} (xs : List X) (i : ℕ) (x : X) → i < length xs → x ≡ get_or xs i x → Some x ≡ numbered xs (suc i)
-numbered_at [] i x h e = absurd (omega arith)
-numbered_at (y ∷ xs) zero x h e = ap Some e
-numbered_at (y ∷ xs) (suc i) x h e = numbered_at xs i x (omega arith) e
+-- an entry that may be none, read from a list that may be too short
+pub flat_at : {X : Type 0} (xs : List (Option X)) (n : ℕ) → 1 ≤ n → option_flatten (numbered xs n) ≡ get_or xs (n - 1) None
+flat_at xs zero low = absurd (omega arith)
+flat_at xs (suc n) low =
+    let at : n ≡ suc n - 1 = omega arith in
+    flat_is (slice_get xs n) ∙ unwrap_or-slice_get xs n None ∙ ap (λ i. get_or xs i None) at
 
-pub numbered_some : {X : Type 0} (xs : List X) (n : ℕ) (x : X) → 1 ≤ n → n ≤ length xs → x ≡ get_or xs (n - 1) x → Some x ≡ numbered xs n
-numbered_some xs n x l h e =
-    let number : suc (n - 1) ≡ n = omega arith in
-    numbered_at xs (n - 1) x (omega arith) e ∙ ap (numbered xs) number
-
-pub numbered_map : {X Y : Type 0} (f : X → Y) (xs : List X) (n : ℕ) → option_map f (numbered xs n) ≡ numbered (map f xs) n
-numbered_map f [] n = refl
-numbered_map f (x ∷ xs) zero = refl
-numbered_map f (x ∷ xs) (suc zero) = refl
-numbered_map f (x ∷ xs) (suc (suc n)) = numbered_map f xs (suc n)
+pub flat_past : {X : Type 0} (xs : List (Option X)) (n : ℕ) → ((1 ≤ n) × (n ≤ length xs) → ⊥) → option_flatten (numbered xs n) ≡ None
+flat_past xs zero none = refl
+flat_past xs (suc n) none =
+    let past : length xs ≤ n = elim (cases_lt n (length xs)) [ inl lt ↦ absurd (none (omega arith, omega arith)) | inr ge ↦ omega arith ] in
+    ap option_flatten (slice_get_past xs n past)

@@ -1,14 +1,13 @@
 -- The sizes of the marked bids' packages, one bid more at a time, and the lots that an award sells.
-use Rattle.std.proofs.Common.{◌≡◌, ℕ, ◌+◌, ◌-◌, ◌<◌, Bool, cond, eqb, List, map, length, get_or, sym, ap, ◌∙◌, ap₂}
+use Rattle.std.proofs.Common.{◌≡◌, ℕ, ◌+◌, Bool, cond, eqb, List, length, get_or, sym, ap, ◌∙◌, ap₂}
 use Rattle.bids.specs.declared.bid.Bid.{Bid}
 use Rattle.bids.specs.Bids.{no_bid}
 use Rattle.bids.proofs.Numbering.{bid_next}
 use Rattle.packages.specs.Lots.{Lots, size_of}
-use Rattle.packages.specs.Places.{package_at, no_lots}
+use Rattle.packages.specs.Places.{package_at}
 use Rattle.contest.specs.Contest.{award, sum_over}
 use Rattle.contest.specs.Descent.{Marks, marked}
 use Rattle.contest.proofs.Awarding.{award_is}
-use Rattle.contest.proofs.Listing.{get_or_mapped}
 use Rattle.contest.proofs.Passes.{sum_more, item_next, marked_is}
 use Rattle.contest.proofs.Sums.{sum_same}
 use Rattle.books.specs.Contests.{contest_of}
@@ -17,15 +16,11 @@ use Rattle.books.specs.Sold.{lots_sold}
 use Rattle.books.proofs.Selling.{sold_sizes}
 use Rattle.sale.specs.Awards.{size_in}
 
--- a package read by its number
-pub size_read : {P : Type 0} (m : P → Lots) (packages : List P) (g : ℕ) (p : P) → g - 1 < length packages → p ≡ get_or packages (g - 1) p → size_of (m p) ≡ size_of (package_at (map m packages) g)
-size_read m packages g p low read = ap (λ x. size_of (m x)) read ∙ ap size_of (sym (get_or_mapped m packages (g - 1) no_lots p low))
-
-pub sizes_more : (n : ℕ) (marks : List ℕ) (packages : List Lots) (bids : List Bid) (a v : ℕ) → a ≡ sum_over n (marked marks) (size_in packages bids)
-    → v ≡ cond (eqb (get_or marks n 0) 1) (size_of (package_at packages (get_or bids n no_bid).«package»)) 0 → a + v ≡ sum_over (n + 1) (marked marks) (size_in packages bids)
-sizes_more n marks packages bids a v e h =
+pub sizes_more : (n : ℕ) (marks : List ℕ) (packages : List Lots) (bids : List Bid) (a v mark : ℕ) (bid : Bid) → a ≡ sum_over n (marked marks) (size_in packages bids)
+    → mark ≡ get_or marks n 0 → bid ≡ get_or bids n no_bid → v ≡ cond (eqb mark 1) (size_of (package_at packages bid.«package»)) 0 → a + v ≡ sum_over (n + 1) (marked marks) (size_in packages bids)
+sizes_more n marks packages bids a v mark bid e at on h =
     sum_more n (marked marks) (size_in packages bids) a v e
-    (h ∙ ap₂ (λ x (y : Bid). cond (eqb x 1) (size_of (package_at packages y.«package»)) 0) (sym (item_next marks n)) (sym (bid_next bids n)))
+    (h ∙ ap₂ (λ x (y : Bid). cond (eqb x 1) (size_of (package_at packages y.«package»)) 0) (at ∙ sym (item_next marks n)) (on ∙ sym (bid_next bids n)))
 
 pub award_sells : (h : History) (before after : List ℕ) (packages : List Lots) (bids : List Bid) (lots : ℕ) → packages ≡ (book_of h).packages → bids ≡ (book_of h).bids
     → Marks (length (book_of h).bids) (award (contest_of (book_of h))) before after → lots ≡ sum_over (length bids) (marked after) (size_in packages bids)

@@ -1,5 +1,5 @@
 -- What a call does to a sale that holds a book.
-use Rattle.std.proofs.Common.{◌≡◌, ℕ, ◌+◌, ◌-◌, ◌<◌, Bool, true, List, [], ◌∷◌, ◌++◌, map, length, take, set, vec_items, vec_len, sym, ap, ◌∙◌, subst, arith}
+use Rattle.std.proofs.Common.{◌≡◌, ℕ, ◌+◌, ◌<◌, Bool, true, List, [], ◌∷◌, ◌++◌, map, length, take, set, vec_items, vec_len, sym, ap, ◌∙◌, subst, arith}
 use Rattle.std.proofs.lemmas.List.{length-map, length-take-le, take_more_set, map_push}
 use Rattle.packages.specs.declared.package.Package.{Ghosts}
 use Rattle.packages.specs.Lots.{Lots}
@@ -27,12 +27,6 @@ module _ {P : Type 0} {kind : Ghosts P} (m : P → Lots) (s : Sale P kind) (b : 
 
   pub bids_counted : length b.bids ≡ vec_len s.nest.bids
   bids_counted = ap length (sym held.bids) ∙ sym s.nest.bids.ok.0
-
-  -- the slice of the first n places of the table
-  pub packages_read : (n : ℕ) (xs : List P) → n ≡ vec_len s.nest.parents → xs ≡ vec_items s.table → map m (take (n - 0) xs) ≡ b.packages
-  packages_read n xs e is =
-      let whole : n - 0 ≡ count = omega arith in
-      ap (λ k. map m (take k xs)) whole ∙ ap (λ l. map m (take count l)) is ∙ held.packages
 
   -- the first n + 1 places of the table, with p at the last of them
   pub packages_more : (n k : ℕ) (p : P) → n ≡ vec_len s.nest.parents → k ≡ n + 1 → n < vec_len s.table

@@ -30,21 +30,21 @@ fn lots_of<P: Package>(packages: &[P], bid: Bid, wins: bool) -> u64
 }
 
 impl<P: Package> Sale<P> {
-    // The sizes of the marked bids' packages, together.
+    // The sizes of the marked bids' packages, together. The nest knows no sizes, and says by bytes which bids win, as the rules ask.
     fn sizes(&self, marks: &[u8]) -> u64
         requires { vec_len self.now.nest.bids ≤ length marks.now }
         ensures { result ≡ sum_over (vec_len self.now.nest.bids) (marked marks.now) (size_in (map P.Package.meaning (permitted self.now)) self.now.nest.bids.items) }
     {
         let packages = self.packages();
-        let bids = self.nest.bids.as_slice();
         let mut lots: u64 = 0;
-        for k in 0..bids.len() {
-            lots += lots_of(packages, bids[k], marks[k] == 1);
+        for (bid, mark) in self.nest.bids.iter().zip(marks) {
+            lots += lots_of(packages, *bid, *mark == 1);
         }
         lots
     }
 
-    // Writes 1 for each winning bid and 0 for each other, bid 1 first, and answers the revenue, the number of winning bids and the lots sold.
+    // Writes 1 for each winning bid and 0 for each other, bid 1 first, and answers the revenue, the number of winning bids and the lots
+    // sold.
     pub fn award(&self, out: &mut [u8]) -> Result<(u64, usize, u64), AwardFault>
         ensures { ByBook P.Package.meaning self.now (λ b. Awarded b out.old out.new result) }
     {

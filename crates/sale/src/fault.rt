@@ -1,7 +1,8 @@
-// Why a call is refused.
+// Why a call is refused. The rules number the refusals, so each fault says its number and its place too.
 ghost use Rattle.std.specs.Prelude.{◌≡◌};
 ghost use Rattle.sale.specs.Refusals.{permit_refusal, lodge_refusal, withdraw_refusal, load_refusal};
 ghost use Rattle.sale.specs.declared.fault.LoadFault.TheVariants.{Read};
+ghost use Rattle.sale.specs.declared.fault.PermitFault.TheVariants.{Conflict};
 
 use packages::Conflict;
 use salefile::fault::ReadFault;
@@ -49,6 +50,14 @@ impl PermitFault {
             PermitFault::Conflict(Conflict::Crossing(package)) => (26, package),
             PermitFault::Conflict(Conflict::Around(package)) => (27, package),
         }
+    }
+}
+
+impl From<Conflict> for PermitFault {
+    ghost from_gives = { λ e r. r ≡ Conflict e };
+
+    fn from(e: Conflict) -> PermitFault {
+        PermitFault::Conflict(e)
     }
 }
 

@@ -29,10 +29,10 @@ impl Sale<Run> {
         ensures table { self.new.table.items ≡ contents.now.packages.items ++ drop (vec_len contents.now.packages) self.old.table.items }
     {
         self.lots = u32::from(contents.lots);
-        for run in contents.packages.as_slice() {
+        for run in &contents.packages {
             self.permit(*run).unwrap();
         }
-        for bid in contents.bids.as_slice() {
+        for bid in &contents.bids {
             self.lodge(bid.buyer, bid.price, bid.package).unwrap();
         }
     }
@@ -43,6 +43,7 @@ impl Sale<Run> {
         ensures table { Stored file.now self.old.table.items result self.new.table.items }
         ensures refused { is_ok result ≡ false → self.new ≡ self.old }
     {
+        // The one refusal that comes before that of a sale with packages or bids; no call answers it, so there is none to convert.
         if file.len() > MAX_BYTES {
             return Err(LoadFault::Read(ReadFault::File(Fault::TooLong)));
         }

@@ -1,21 +1,19 @@
 // Two sales compared, and what is promised of any two.
-ghost use Rattle.std.specs.Prelude.{◌≡◌, ◌<◌, true, false, ◌↔◌, map, length, pos, ◌-ℤ◌};
+ghost use Rattle.std.specs.Prelude.{◌≡◌, ◌<◌, true, false, ◌↔◌, map, vec_len, pos, ◌-ℤ◌};
 ghost use Rattle.contest.specs.Telling.{Same};
-ghost use Rattle.nest.specs.Placed.{Placed};
 ghost use Rattle.books.specs.Contests.{contest_at};
 ghost use Rattle.books.specs.History.{History, book_of};
 ghost use Rattle.books.specs.Promises.{Promises};
-ghost use Rattle.sale.specs.Compared.{shares, clash_in, AlikeAt, Compared};
-ghost use Rattle.sale.specs.Holds.{Holds};
+ghost use Rattle.sale.specs.Compared.{clash_in, AlikeAt, Compared};
+ghost use Rattle.sale.specs.Holds.{permitted, Holds};
 
 use crate::state::Sale;
-use bids::Bid;
 use nest::ChargeFault;
 use packages::{Package, Relation};
 use scales::Scale;
 
 // What is found of two sales for one buyer.
-#[derive(Clone, Copy)]
+#[derive(Clone, Copy, PartialEq, Eq, Debug)]
 pub struct Comparison {
     // Whether the same bids stand in both, and the same pairs of standing bids clash.
     pub same: bool,
@@ -24,74 +22,45 @@ pub struct Comparison {
     pub second_gain: i128,
 }
 
-// Whether two sets that are not empty share a lot.
-fn shares_lot(relation: Relation) -> bool
-    ensures { result ≡ shares relation }
-{
-    match relation {
-        Relation::Apart => false,
-        _ => true,
+impl<P: Package> Sale<P> {
+    // Whether the packages of the bids with places `j` and `k` share a lot. Neither package is empty.
+    fn clash(&self, j: usize, k: usize) -> bool
+        requires first { j < vec_len self.now.nest.bids }
+        requires second { k < vec_len self.now.nest.bids }
+        ensures { result ≡ clash_in (map P.Package.meaning (permitted self.now)) self.now.nest.bids.items j k }
+    {
+        let packages = self.packages();
+        let one = packages[self.nest.bids[j].package - 1];
+        let other = packages[self.nest.bids[k].package - 1];
+        one.compare(&other) != Relation::Apart
     }
-}
 
-// Whether the packages of the bids with places `j` and `k` share a lot.
-fn clash<P: Package>(packages: &[P], bids: &[Bid], j: usize, k: usize) -> bool
-    requires placed { Placed (length packages.now) bids.now }
-    requires first { j < length bids.now }
-    requires second { k < length bids.now }
-    ensures { result ≡ clash_in (map P.Package.meaning packages.now) bids.now j k }
-{
-    let one = packages[bids[j].package - 1];
-    let other = packages[bids[k].package - 1];
-    shares_lot(one.compare(&other))
-}
-
-// Whether the bid with place `k` stands in both lists or in none, and clashes with the same standing bids before it.
-fn alike<P: Package, Q: Package>(
-    these: &[P],
-    bids: &[Bid],
-    those: &[Q],
-    others: &[Bid],
-    k: usize,
-) -> bool
-    requires placed { Placed (length these.now) bids.now }
-    requires others_placed { Placed (length those.now) others.now }
-    requires first { k < length bids.now }
-    requires second { k < length others.now }
-    ensures yes { result ≡ true → AlikeAt (map P.Package.meaning these.now) (map Q.Package.meaning those.now) bids.now others.now k }
-    ensures no { result ≡ false → AlikeAt (map P.Package.meaning these.now) (map Q.Package.meaning those.now) bids.now others.now k → ⊥ }
-{
-    if bids[k].withdrawn != others[k].withdrawn {
-        return false;
-    }
-    if bids[k].withdrawn {
-        return true;
-    }
-    for j in 0..k {
-        if !bids[j].withdrawn && clash(these, bids, j, k) != clash(those, others, j, k) {
-            return false;
+    // Whether the bid with place `k` stands in both sales or in none, and clashes with the same standing bids before it.
+    fn is_alike<Q: Package>(&self, other: &Sale<Q>, k: usize) -> bool
+        requires first { k < vec_len self.now.nest.bids }
+        requires second { k < vec_len other.now.nest.bids }
+        ensures yes { result ≡ true → AlikeAt (map P.Package.meaning (permitted self.now)) (map Q.Package.meaning (permitted other.now)) self.now.nest.bids.items other.now.nest.bids.items k }
+        ensures no { result ≡ false → AlikeAt (map P.Package.meaning (permitted self.now)) (map Q.Package.meaning (permitted other.now)) self.now.nest.bids.items other.now.nest.bids.items k → ⊥ }
+    {
+        let bids = self.nest.bids.as_slice();
+        if bids[k].withdrawn || other.nest.bids[k].withdrawn {
+            return bids[k].withdrawn == other.nest.bids[k].withdrawn;
         }
-    }
-    true
-}
-
-// Whether the same bids stand in both sales, and the same pairs of standing bids clash.
-fn same_contest<P: Package, Q: Package>(first: &Sale<P>, second: &Sale<Q>) -> bool
-    ensures { (h k : History) → Holds P.Package.meaning first.now (book_of h) → Holds Q.Package.meaning second.now (book_of k) → (result ≡ true) ↔ Same (contest_at h) (contest_at k) }
-{
-    let bids = first.nest.bids.as_slice();
-    let others = second.nest.bids.as_slice();
-    if bids.len() != others.len() {
-        return false;
-    }
-    let these = first.packages();
-    let those = second.packages();
-    for k in 0..bids.len() {
-        if !alike(these, bids, those, others, k) {
-            return false;
+        for (j, bid) in bids[0..k].iter().enumerate() {
+            if !bid.withdrawn && self.clash(j, k) != other.clash(j, k) {
+                return false;
+            }
         }
+        true
     }
-    true
+
+    // Whether the same bids stand in both sales, and the same pairs of standing bids clash.
+    fn is_same_contest<Q: Package>(&self, other: &Sale<Q>) -> bool
+        ensures { (h k : History) → Holds P.Package.meaning self.now (book_of h) → Holds Q.Package.meaning other.now (book_of k) → (result ≡ true) ↔ Same (contest_at h) (contest_at k) }
+    {
+        let bids = self.nest.bids.len();
+        bids == other.nest.bids.len() && (0..bids).all(|k| self.is_alike(other, k))
+    }
 }
 
 // What is left of a worth after a charge; it may be below 0.
@@ -115,7 +84,7 @@ pub fn compare_sales<P: Package, Q: Package, S: Scale>(
     let owed = second.charge(buyer)?;
     let prices = first.bids();
     Ok(Comparison {
-        same: same_contest(first, second),
+        same: first.is_same_contest(second),
         first_gain: gain(first.nest.winnings(prices, buyer), paid),
         second_gain: gain(second.nest.winnings(prices, buyer), owed),
     })

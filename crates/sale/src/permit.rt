@@ -23,14 +23,9 @@ impl<P: Package> Sale<P> {
         if self.package_space() <= count {
             return Err(PermitFault::NoSpace);
         }
-        let permitted = &self.table.as_slice()[0..count];
-        match place(permitted, &package) {
-            Ok(parent) => {
-                self.table[count] = package;
-                self.nest.parents.push_reserved(parent);
-                Ok(count + 1)
-            }
-            Err(conflict) => Err(PermitFault::Conflict(conflict)),
-        }
+        let parent = place(self.packages(), &package)?;
+        self.table[count] = package;
+        self.nest.parents.push_reserved(parent);
+        Ok(count + 1)
     }
 }

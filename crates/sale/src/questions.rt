@@ -1,4 +1,4 @@
-// What a sale holds.
+// Questions about a sale.
 ghost use Rattle.std.specs.Prelude.{◌≡◌, min, map, None, vec_len};
 ghost use Rattle.std.specs.Option.{option_map};
 ghost use Rattle.bids.specs.Limits.{max_packages};
@@ -11,6 +11,13 @@ use crate::state::Sale;
 use bids::Bid;
 use bids::limits::MAX_PACKAGES;
 use packages::Package;
+
+// The entry with this number, counted from 1, if there is one.
+fn numbered<T: Copy>(entries: &[T], number: usize) -> Option<T>
+    ensures { result ≡ numbered entries.now number }
+{
+    entries.get(number.checked_sub(1)?).copied()
+}
 
 impl<P: Package> Sale<P> {
     // The number of lots.
@@ -48,20 +55,14 @@ impl<P: Package> Sale<P> {
         ensures stored { result ≡ numbered (permitted self.now) number }
         ensures book { ByBook P.Package.meaning self.now (λ b. option_map P.Package.meaning result ≡ numbered b.packages number) }
     {
-        if number < 1 || self.nest.parents.len() < number {
-            return None;
-        }
-        Some(self.table[number - 1])
+        numbered(self.packages(), number)
     }
 
     // The bid with this number, if there is one.
     pub fn bid(&self, number: usize) -> Option<Bid>
         ensures { ByBook P.Package.meaning self.now (λ b. result ≡ numbered b.bids number) }
     {
-        if number < 1 || self.nest.bids.len() < number {
-            return None;
-        }
-        Some(self.nest.bids[number - 1])
+        numbered(self.bids(), number)
     }
 
     // The number of the innermost package around package `number`, if there is one.
@@ -69,9 +70,6 @@ impl<P: Package> Sale<P> {
         ensures innermost { ByBook P.Package.meaning self.now (λ b. Numbered b.packages number → Parent b.packages number result) }
         ensures beyond { ByBook P.Package.meaning self.now (λ b. (Numbered b.packages number → ⊥) → result ≡ None) }
     {
-        if number < 1 || self.nest.parents.len() < number {
-            return None;
-        }
-        self.nest.parents[number - 1]
+        numbered(self.nest.parents.as_slice(), number).flatten()
     }
 }

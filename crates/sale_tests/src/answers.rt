@@ -1,7 +1,10 @@
-// A sale to try calls on, and what a call answers: 0 and a number, or the number and the place of a refusal.
+// A sale to try calls on, and the answer of a call: a number, or the number and the place of a refusal.
 use packages::{Package, Run};
-use sale::{LoadFault, LodgeFault, PermitFault, Sale, WithdrawFault};
+use sale::Sale;
 use std::test::Fail;
+
+// What a call answers.
+pub(crate) type Answer = Result<usize, (u8, usize)>;
 
 // A sale with a table of so many places, all of them `filler`.
 pub(crate) fn made<P: Package>(
@@ -10,14 +13,8 @@ pub(crate) fn made<P: Package>(
     places: usize,
     filler: P,
 ) -> Result<Sale<P>, Fail> {
-    let mut table = Vec::new(rt.alloc());
-    for _ in 0..places {
-        table.push(filler)?;
-    }
-    match Sale::new(rt.alloc(), lots, table) {
-        Ok(sale) => Ok(sale),
-        Err(_) => Err(Fail::new("no memory")),
-    }
+    let table = vec![in rt.alloc(); filler; places]?;
+    Sale::new(rt.alloc(), lots, table).map_err(|_| Fail::new("no memory"))
 }
 
 // A package that means nothing, for the places of a table.
@@ -25,32 +22,4 @@ pub(crate) const ANY: Run = Run { first: 7, last: 9 };
 
 pub(crate) fn run(first: u16, last: u16) -> Run {
     Run { first, last }
-}
-
-pub(crate) fn permit_told(answer: Result<usize, PermitFault>) -> (u8, usize) {
-    match answer {
-        Ok(number) => (0, number),
-        Err(fault) => fault.refusal(),
-    }
-}
-
-pub(crate) fn lodge_told(answer: Result<usize, LodgeFault>) -> (u8, usize) {
-    match answer {
-        Ok(number) => (0, number),
-        Err(fault) => fault.refusal(),
-    }
-}
-
-pub(crate) fn withdraw_told(answer: Result<u32, WithdrawFault>) -> (u8, u32) {
-    match answer {
-        Ok(price) => (0, price),
-        Err(fault) => (fault.refusal().0, 0),
-    }
-}
-
-pub(crate) fn load_told(answer: Result<usize, LoadFault>) -> Option<(u8, usize)> {
-    match answer {
-        Ok(bids) => Some((0, bids)),
-        Err(fault) => fault.refusal(),
-    }
 }

@@ -1,5 +1,6 @@
 // Sales at a limit, and one step beyond it.
-use crate::answers::{ANY, lodge_told, made, permit_told, run, withdraw_told};
+use crate::answers::{ANY, made, run};
+use sale::{LodgeFault, PermitFault, WithdrawFault};
 use std::test::Fail;
 
 // a number of lots, and the number that a sale of runs has
@@ -20,7 +21,10 @@ fn packages_are_as_many_as_there_is_space(rt: HostRuntime) -> Result<(), Fail> {
             sale.permit(run(lot, lot)).ok();
         }
         assert_eq!(rt; sale.packages().len(), space);
-        assert_eq!(rt; permit_told(sale.permit(run(300, 300))), (24, 0));
+        assert_eq!(rt;
+            sale.permit(run(300, 300)).map_err(PermitFault::refusal),
+            Err((24, 0))
+        );
     }
     Ok(())
 }
@@ -28,17 +32,35 @@ fn packages_are_as_many_as_there_is_space(rt: HostRuntime) -> Result<(), Fail> {
 #[test]
 fn a_sale_has_at_most_512_bids(rt: HostRuntime) -> Result<(), Fail> {
     let mut sale = made(&rt, 1, 1, ANY)?;
-    assert_eq!(rt; lodge_told(sale.lodge(1, 1, 1)), (28, 0));
-    assert_eq!(rt; permit_told(sale.permit(run(1, 1))), (0, 1));
+    assert_eq!(rt;
+        sale.lodge(1, 1, 1).map_err(LodgeFault::refusal),
+        Err((28, 0))
+    );
+    assert_eq!(rt; sale.permit(run(1, 1)).map_err(PermitFault::refusal), Ok(1));
     for number in 1usize..=512 {
-        assert_eq!(rt; lodge_told(sale.lodge(1, 1, 1)), (0, number));
+        assert_eq!(rt;
+            sale.lodge(1, 1, 1).map_err(LodgeFault::refusal),
+            Ok(number)
+        );
     }
-    assert_eq!(rt; lodge_told(sale.lodge(1, 1, 1)), (29, 0));
-    assert_eq!(rt; lodge_told(sale.lodge(1, 1, 2)), (28, 0));
+    assert_eq!(rt;
+        sale.lodge(1, 1, 1).map_err(LodgeFault::refusal),
+        Err((29, 0))
+    );
+    assert_eq!(rt;
+        sale.lodge(1, 1, 2).map_err(LodgeFault::refusal),
+        Err((28, 0))
+    );
     // a withdrawn bid keeps its number
-    assert_eq!(rt; withdraw_told(sale.withdraw(512)), (0, 1));
-    assert_eq!(rt; withdraw_told(sale.withdraw(513)), (30, 0));
-    assert_eq!(rt; lodge_told(sale.lodge(1, 1, 1)), (29, 0));
+    assert_eq!(rt; sale.withdraw(512).map_err(WithdrawFault::refusal), Ok(1));
+    assert_eq!(rt;
+        sale.withdraw(513).map_err(WithdrawFault::refusal),
+        Err((30, 0))
+    );
+    assert_eq!(rt;
+        sale.lodge(1, 1, 1).map_err(LodgeFault::refusal),
+        Err((29, 0))
+    );
     assert_eq!(rt; sale.bids().len(), 512);
     Ok(())
 }

@@ -1,5 +1,5 @@
-use Rattle.std.proofs.Common.{◌≡◌, ℕ, ◌+◌, ◌<◌, ◌≤◌, min, List, ◌++◌, map, length, get_or, take, drop, vec_items, vec_len, sym, refl, ap, ◌∙◌, subst, ap₂, arith}
-use Rattle.std.proofs.lemmas.List.{nil_from_length, length-map, length-take-le, take_all}
+use Rattle.std.proofs.Common.{◌≡◌, ℕ, ◌+◌, ◌<◌, ◌≤◌, min, List, map, length, get_or, take, vec_items, vec_len, sym, ap, ◌∙◌, subst, arith}
+use Rattle.std.proofs.lemmas.List.{length-map, length-take-le}
 use Rattle.packages.specs.declared.run.Run.{Run}
 use Rattle.bids.specs.Bids.{no_bid}
 use Rattle.bids.specs.Limits.{max_packages}
@@ -10,23 +10,11 @@ use Rattle.sale.specs.Holds.{Holds, Obeys}
 use Rattle.sale.specs.Refusals.{reply, permit_refusal, lodge_refusal}
 use Rattle.sale.proofs.Steps.{packages_counted}
 use Rattle.salefile.proofs.Nested.{no_run}
-use Rattle.books.proofs.Replay.{part, part_all}
+use Rattle.books.proofs.Replay.{part}
 use Rattle.sale.proofs.TakingUp.{reply_ok, permit_next, lodge_next}
 use Rattle.sale.proofs.Tables.{stored_next}
 use Rattle.sale.proofs.load.Sale+Run.take_up.Goals as goal
 use Rattle.sale.proofs.load.Sale+Run.take_up.Goals.{After-permit, After-lodge}
-
-pub loop-run-init : goal.loop-run-init
-loop-run-init c = (
-  record {
-    lots = c.from-self.ensures;
-    space = refl;
-    packages = ap (λ n. map run_set (take n (vec_items c.args.self.now.table))) c.requires.no_packages;
-    parents = nil_from_length (vec_items c.args.self.now.nest.parents) (sym c.args.self.now.nest.parents.ok.0 ∙ c.requires.no_packages);
-    bids = nil_from_length (vec_items c.args.self.now.nest.bids) (sym c.args.self.now.nest.bids.ok.0 ∙ c.requires.no_bids);
-  },
-  refl,
-)
 
 -- the next package is permitted
 permitted_next : (c : After-permit)
@@ -34,7 +22,7 @@ permitted_next : (c : After-permit)
     × (reply permit_refusal c.permit.result ≡ accepted (c.loop-run.run-index + 1))
 permitted_next c =
     let i : ℕ = c.loop-run.run-index in
-    let value = c.as_slice-run-items.ensures.value in
+    let value = c.deref-run-items.ensures.value in
     let lt : i < length (vec_items c.args.contents.now.packages) = subst (λ l. i < length l) value c.loop-run-test.true in
     let obeys = subst (λ l. Obeys run_set c.loop-run.self c.permit.new.self (permit (run_set (get_or l i no_run))) (reply permit_refusal c.permit.result)) value c.permit.ensures.rules in
     permit_next (min max_packages (vec_len c.args.self.now.table)) (contents_of c.args.contents.now) c.requires.orderly c.requires.standing (omega arith) c.loop-run.self c.permit.new.self i (reply permit_refusal c.permit.result) lt c.loop-run.invariant.0 obeys
@@ -50,7 +38,7 @@ loop-run-preserved c =
     let R : List Run = vec_items c.args.contents.now.packages in
     let T : List Run = vec_items c.args.self.now.table in
     let ord : Orderly space says = c.requires.orderly in
-    let value = c.as_slice-run-items.ensures.value in
+    let value = c.deref-run-items.ensures.value in
     let lt : i < length R = subst (λ l. i < length l) value c.loop-run-test.true in
     let next = permitted_next (goal.at.loop-run-preserved c).After-permit in
     let count : length (map run_set (take i R)) ≡ i = length-map (take i R) run_set ∙ length-take-le i R (omega arith) in
@@ -61,18 +49,6 @@ loop-run-preserved c =
           (reply_ok permit_refusal c.permit.result (i + 1) next.1) (ap (λ l. get_or l i no_run) value) c.permit.ensures.table,
     )
 
-pub loop-bid-init : goal.loop-bid-init
-loop-bid-init c =
-    let says : FileContents = contents_of c.args.contents.now in
-    let R : List Run = vec_items c.args.contents.now.packages in
-    let size = ap length c.as_slice-run-items.ensures.value in
-    let end : c.loop-run.run-index ≡ length R = omega (arith, c.loop-run-test.false, c.loop-run.auto.run-index-end) in
-    let held = c.loop-run.invariant.0 in (
-      subst (λ n. Holds run_set c.loop-run.self (part says (min max_packages (vec_len c.loop-run.self.table)) n 0)) end
-          (subst (λ m. Holds run_set c.loop-run.self (part says m c.loop-run.run-index 0)) (sym held.space) held),
-      refl,
-    )
-
 -- the next bid is lodged
 lodged-next : (c : After-lodge)
     → Holds run_set c.lodge.new.self (part (contents_of c.args.contents.now) (min max_packages (vec_len c.args.self.now.table)) (length (vec_items c.args.contents.now.packages)) (c.loop-bid.bid-index + 1))
@@ -81,7 +57,7 @@ lodged-next c =
     let says : FileContents = contents_of c.args.contents.now in
     let j : ℕ = c.loop-bid.bid-index in
     let n : ℕ = length (vec_items c.args.contents.now.packages) in
-    let value = c.as_slice-bid-items.ensures.value in
+    let value = c.deref-bid-items.ensures.value in
     let lt : j < length says.bids = subst (λ l. j < length l) value c.loop-bid-test.true in
     let held = subst (λ m. Holds run_set c.loop-bid.self (part says m n j)) c.loop-run.invariant.0.space c.loop-bid.invariant.0 in
     let obeys = subst (λ l. Obeys run_set c.loop-bid.self c.lodge.new.self (lodge (get_or l j no_bid).buyer (get_or l j no_bid).price (get_or l j no_bid).«package») (reply lodge_refusal c.lodge.result)) value c.lodge.ensures.rules in
@@ -97,25 +73,3 @@ loop-bid-preserved c =
       subst (λ m. Holds run_set c.lodge.new.self (part (contents_of c.args.contents.now) m n (c.loop-bid.bid-index + 1))) (sym c.loop-run.invariant.0.space) next.0,
       ap (λ t. vec_items t) c.lodge.ensures.table ∙ c.loop-bid.invariant.1,
     )
-
-pub returns : goal.returns
-returns c =
-    let says : FileContents = contents_of c.args.contents.now in
-    let space : ℕ = min max_packages (vec_len c.args.self.now.table) in
-    let R : List Run = vec_items c.args.contents.now.packages in
-    let T : List Run = vec_items c.args.self.now.table in
-    let ord : Orderly space says = c.requires.orderly in
-    let same = c.loop-run.invariant.0.space in
-    let size = ap length c.as_slice-bid-items.ensures.value in
-    let size_runs = ap length c.as_slice-run-items.ensures.value in
-    let end : c.loop-bid.bid-index ≡ length says.bids = omega (arith, c.loop-bid-test.false, c.loop-bid.auto.bid-index-end) in
-    let end_runs : c.loop-run.run-index ≡ length R = omega (arith, c.loop-run-test.false, c.loop-run.auto.run-index-end) in
-    let held = subst (λ j. Holds run_set c.loop-bid.self (part says space (length R) j)) end (subst (λ m. Holds run_set c.loop-bid.self (part says m (length R) c.loop-bid.bid-index)) same c.loop-bid.invariant.0) in
-    record {
-      holds = subst (Holds run_set c.loop-bid.self) (part_all space says ord c.requires.standing (omega arith)) held;
-      table =
-          c.loop-bid.invariant.1
-          ∙ c.loop-run.invariant.1
-          ∙ ap (λ n. take n R ++ drop n T) end_runs
-          ∙ ap₂ (λ l n. l ++ drop n T) (take_all (length R) R (omega arith)) (sym c.args.contents.now.packages.ok.0);
-    }
