@@ -5,7 +5,7 @@ use salefile::limits::MAX_BYTES;
 use std::alloc::Global;
 use std::io::Read;
 use std::process::ExitCode;
-use summary::report::report;
+use summary::report::{FileReport, report};
 
 // The bytes of the input. Of a longer one no more is read than shows that it is too long.
 fn read_input<R: Read + Drop>(heap: Global, input: R) -> anyhow::Result<Vec<u8>> {
@@ -14,20 +14,14 @@ fn read_input<R: Read + Drop>(heap: Global, input: R) -> anyhow::Result<Vec<u8>>
     Ok(file)
 }
 
-// Whether the file is accepted.
-fn run(rt: &HostRuntime) -> anyhow::Result<bool> {
+// Prints the report on the input. After a refusal the program ends with status 1, so that a script can tell.
+fn main(rt: HostRuntime) -> anyhow::Result<ExitCode> {
     let file = read_input(rt.alloc(), rt.stdin())?;
     let report = report(rt.alloc(), file.as_slice())?;
-    rt.print(report.text.as_str())?;
-    Ok(report.accepted)
-}
-
-// After a refusal the program ends with status 1, so that a script can tell.
-fn main(rt: HostRuntime) -> anyhow::Result<ExitCode> {
-    Ok(if run(&rt)? {
-        ExitCode::SUCCESS
-    } else {
-        ExitCode::FAILURE
+    rt.print(&report)?;
+    Ok(match report {
+        FileReport::Accepted(_) => ExitCode::SUCCESS,
+        FileReport::Refused(_) => ExitCode::FAILURE,
     })
 }
 
@@ -51,9 +45,7 @@ mod tests {
         let heap = rt.alloc();
         for (length, expected) in CASES {
             let input = vec![in heap; b'*'; length]?;
-            let Ok(file) = read_input(heap, input.as_slice()) else {
-                return Err(Fail::new("not read"));
-            };
+            let file = read_input(heap, input.as_slice())?;
             assert_eq!(rt; file.len(), expected);
         }
         Ok(())

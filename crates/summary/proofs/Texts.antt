@@ -1,11 +1,10 @@
 -- What is written of lists, one element more.
-use Rattle.std.proofs.Common.{◌≡◌, ℕ, ◌+◌, ◌<◌, true, List, [], ◌∷◌, ◌++◌, map, length, get_or, take, is_ok, Some, None, decimal, Option, Result, sym, refl, ap, ◌∙◌, subst, append_assoc, append-nil}
+use Rattle.std.proofs.Common.{Bor, ◌≡◌, ℕ, ◌+◌, ◌<◌, true, List, [], ◌∷◌, ◌++◌, map, length, get_or, take, is_ok, Some, decimal, Option, Result, sym, refl, ap, ◌∙◌, subst, append_assoc, append-nil}
 use Rattle.std.specs.declared.fmt.Error.{Error}
 use Rattle.std.specs.declared.fmt.Formatter.{Formatter}
-use Rattle.std.specs.Fmt.{IsPlainFormatter, HasWritten, DisplaysOnOk, WritesOnOk, option_append}
-use Rattle.std.proofs.Output.{writes_in_calls_nil, has_written_append, has_written_of_eq, has_written_to_eq}
+use Rattle.std.specs.Fmt.{HasWritten, DisplaysOnOk, WritesOnOk, option_append}
+use Rattle.std.proofs.Output.{has_written_append, has_written_of_eq}
 use Rattle.std.proofs.lemmas.List.{take_more, map-append}
-use Rattle.scales.specs.Places.{somes}
 use Rattle.books.specs.Worked.{ended}
 use Rattle.summary.specs.Text.{spaced}
 
@@ -13,19 +12,9 @@ pub ended_append : (xs ys : List (List ℕ)) → ended (xs ++ ys) ≡ ended xs +
 ended_append [] ys = refl
 ended_append (x ∷ xs) ys = ap (λ (t : List ℕ). x ++ (10 ∷ t)) (ended_append xs ys) ∙ sym (append_assoc x (10 ∷ ended xs) (ended ys))
 
-spaced_append : (xs ys : List (Option ℕ)) → spaced (somes (xs ++ ys)) ≡ spaced (somes xs) ++ spaced (somes ys)
-spaced_append [] ys = refl
-spaced_append (Some a ∷ xs) ys = ap (λ (t : List ℕ). 32 ∷ (decimal a ++ t)) (spaced_append xs ys) ∙ sym (append_assoc (32 ∷ decimal a) (spaced (somes xs)) (spaced (somes ys)))
-spaced_append (None ∷ xs) ys = spaced_append xs ys
-
--- what is written of one place
-abbrev pub placed : Option ℕ → List ℕ
-placed (Some a) = 32 ∷ decimal a
-placed None = []
-
-spaced_one : (o : Option ℕ) → spaced (somes (o ∷ [])) ≡ placed o
-spaced_one (Some a) = append-nil (32 ∷ decimal a)
-spaced_one None = refl
+spaced_push : (ns : List ℕ) (n : ℕ) → spaced (ns ++ (n ∷ [])) ≡ spaced ns ++ (32 ∷ decimal n)
+spaced_push [] n = append-nil (32 ∷ decimal n)
+spaced_push (m ∷ ns) n = ap (λ (t : List ℕ). 32 ∷ (decimal m ++ t)) (spaced_push ns n) ∙ sym (append_assoc (32 ∷ decimal m) (spaced ns) (32 ∷ decimal n))
 
 -- the parts of a report, each as it is written
 pub parts_joined : (r w t : List ℕ) (bids payments : List (List ℕ)) → ((((((r ++ (10 ∷ [])) ++ ended bids) ++ ended payments) ++ (w ++ (10 ∷ []))) ++ t) ++ (10 ∷ [])) ≡ ended (r ∷ (bids ++ (payments ++ (w ∷ t ∷ []))))
@@ -34,17 +23,11 @@ parts_joined r w t bids payments = simp (ended_append, append_assoc)
 ended_more : {D : Type 0} (line : D → List ℕ) (ds : List D) (i : ℕ) (d : D) → i < length ds → ended (map line (take (i + 1) ds)) ≡ ended (map line (take i ds)) ++ (line (get_or ds i d) ++ (10 ∷ []))
 ended_more line ds i d h = rw (take_more ds i d h, map-append, ended_append)
 
-spaced_more : (os : List (Option ℕ)) (i : ℕ) (d : Option ℕ) → i < length os → spaced (somes (take (i + 1) os)) ≡ spaced (somes (take i os)) ++ spaced (somes (get_or os i d ∷ []))
-spaced_more os i d h = rw (take_more os i d h, spaced_append)
-
 -- one text after another
 pub then_put : {W : Type 0} {took : W → List ℕ → W → Type 0} {f g h : Formatter W} {a b : List ℕ} → HasWritten took f a g → HasWritten took g b h → HasWritten took f (a ++ b) h
 then_put {took = took} p q = has_written_append took _ _ _ _ _ p q
 
 module _ {W : Type 0} (took : W → List ℕ → W → Type 0) where
-  pub put_none : (f : Formatter W) → IsPlainFormatter f → HasWritten took f [] f
-  put_none f plain = record { wrote = writes_in_calls_nil took f.writer; plain = plain }
-
   -- a value more, on a line of its own
   pub line_more :
       {D : Type 0} (shown : D → Option (List ℕ)) (line : D → List ℕ) → ((d : D) → shown d ≡ Some (line d)) →
@@ -56,10 +39,12 @@ module _ {W : Type 0} (took : W → List ℕ → W → Type 0) where
       let all = then_put before (wrote before.plain ok) in
       has_written_of_eq took f _ _ h (ap (λ (x : _). ended (map line (take i ds)) ++ (line x ++ (10 ∷ []))) is ∙ sym (ended_more line ds i d lt)) all
 
-  -- a place more, which may have an amount
-  pub place_more :
-      (os : List (Option ℕ)) (i : ℕ) (o : Option ℕ) → i < length os → get_or os i None ≡ o →
-      (f g h k : Formatter W) → k ≡ h → HasWritten took f (spaced (somes (take i os))) g → HasWritten took g (placed o) h → HasWritten took f (spaced (somes (take (i + 1) os))) k
-  place_more os i o lt is f g h k same before now =
-      let text : spaced (somes (take i os)) ++ placed o ≡ spaced (somes (take (i + 1) os)) = rw (spaced_more os i None lt, is, spaced_one) in
-      has_written_to_eq took f _ h k same (has_written_of_eq took f _ _ h text (then_put before now))
+  -- a number more, after a space
+  pub number_more :
+      (ns : List (Bor ℕ)) (n : Bor ℕ) (f g h : Formatter W) →
+      HasWritten took f (spaced (map (λ y. y.now) ns)) g → HasWritten took g (32 ∷ decimal n.now) h → HasWritten took f (spaced (map (λ y. y.now) (ns ++ (n ∷ [])))) h
+  number_more ns n f g h before now =
+      let text : spaced (map (λ y. y.now) ns) ++ (32 ∷ decimal n.now) ≡ spaced (map (λ y. y.now) (ns ++ (n ∷ []))) =
+      sym (ap spaced (map-append (λ y. y.now) ns (n ∷ [])) ∙ spaced_push (map (λ y. y.now) ns) n.now)
+      in
+      has_written_of_eq took f _ _ h text (then_put before now)

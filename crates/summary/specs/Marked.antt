@@ -1,15 +1,10 @@
 -- Bids with bytes that mark which of them win.
---   winner_in     what is said of a bid of a list
 --   AwardMarked   the bids are those of a contest, and the bytes mark its award
 use Rattle.std.specs.Prelude.{◌≡◌, ℕ, List, length}
 use Rattle.bids.specs.declared.bid.Bid.{Bid}
 use Rattle.bids.specs.Bids.{bid_at}
 use Rattle.contest.specs.Contest.{Contest, Numbered, award}
 use Rattle.contest.specs.Descent.{marked}
-use Rattle.summary.specs.declared.contents.Winner.{Winner}
-
-abbrev pub winner_in : List Bid → ℕ → Winner
-winner_in bids k = record { number = k; buyer = (bid_at bids k).buyer; price = (bid_at bids k).price }
 
 pub record AwardMarked (c : Contest) (bids : List Bid) (marks : List ℕ) : Type 0 where
   pub count : c.count ≡ length bids

@@ -4,11 +4,14 @@
 --   spaced, top_line               numbers, each after a space, and the line of the greatest amounts
 --   report_lines, report_text      the lines of a report, and its text
 --   refusal_line, refusal_text     the one line of a refused file, and its text
+--   printed_text                   the text of a report on a file, which is either
 use Rattle.std.specs.Prelude.{ℕ, List, [], ◌∷◌, ◌++◌, map, codes, decimal}
 use Rattle.books.specs.Worked.{ended}
 use Rattle.summary.specs.declared.contents.Payment.{Payment}
 use Rattle.summary.specs.declared.contents.Winner.{Winner}
-use Rattle.summary.specs.Reports.{Report}
+use Rattle.summary.specs.declared.report.FileReport.{FileReport}
+use Rattle.summary.specs.declared.report.FileReport.TheVariants.{Accepted, Refused}
+use Rattle.summary.specs.Reports.{Report, said}
 
 abbrev pub revenue_line : ℕ → List ℕ
 revenue_line crowns = codes "REVENUE " ++ decimal crowns
@@ -41,3 +44,7 @@ refusal_line number line = codes "REFUSED " ++ (decimal number ++ (codes " LINE 
 
 abbrev pub refusal_text : ℕ → ℕ → List ℕ
 refusal_text number line = ended (refusal_line number line ∷ [])
+
+abbrev pub printed_text : FileReport → List ℕ
+printed_text (Accepted summary) = report_text (said summary)
+printed_text (Refused refusal) = refusal_text refusal.number refusal.line

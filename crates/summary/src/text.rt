@@ -1,12 +1,13 @@
 // The text of a report.
 ghost use Rattle.std.specs.Prelude.{◌≡◌, ℕ, List, map, IfOk, Some, string_bytes};
 ghost use Rattle.std.specs.Fmt.{WritesOnOk};
-ghost use Rattle.summary.specs.Text.{winner_line, payment_line, top_line, report_text, refusal_text};
+ghost use Rattle.summary.specs.Text.{winner_line, payment_line, top_line, report_text, refusal_text, printed_text};
 ghost use Rattle.summary.specs.Reports.{said};
 ghost use Rattle.scales.specs.Places.{somes};
 ghost use Rattle.books.specs.Worked.{ended};
 
 use crate::contents::{Payment, Summary, Winner};
+use crate::report::{FileReport, Refusal};
 use std::alloc::{AllocError, Global};
 use std::fmt;
 
@@ -50,10 +51,8 @@ fn write_top<W: fmt::Write>(f: &mut fmt::Formatter<W>, top: &[Option<u64>]) -> f
     ensures { WritesOnOk W.Write.write_str_gives f.old result (top_line (somes top.now)) f.new }
 {
     f.write_str("TOP")?;
-    for place in top {
-        if let Some(amount) = place {
-            write!(f, " {amount}")?;
-        }
+    for amount in top.iter().flatten() {
+        write!(f, " {amount}")?;
     }
     Ok(())
 }
@@ -87,9 +86,30 @@ impl Summary {
     }
 }
 
+impl fmt::Display for Refusal {
+    ghost output = { λ r. Some (refusal_text r.number r.line) };
+
+    fn fmt<W: fmt::Write>(&self, f: &mut fmt::Formatter<W>) -> fmt::Result {
+        let Refusal { number, line } = self;
+        writeln!(f, "REFUSED {number} LINE {line}")
+    }
+}
+
 // The line of a refused file.
 pub fn refusal_text(heap: Global, number: u8, line: usize) -> Result<String, AllocError>
     ensures { IfOk result (λ t. string_bytes t ≡ refusal_text number line) }
 {
-    format!(in heap; "REFUSED {number} LINE {line}\n")
+    let refusal = Refusal { number, line };
+    format!(in heap; "{refusal}")
+}
+
+impl fmt::Display for FileReport {
+    ghost output = { λ r. Some (printed_text r) };
+
+    fn fmt<W: fmt::Write>(&self, f: &mut fmt::Formatter<W>) -> fmt::Result {
+        match self {
+            FileReport::Accepted(summary) => write!(f, "{summary}"),
+            FileReport::Refused(refusal) => write!(f, "{refusal}"),
+        }
+    }
 }

@@ -1,19 +1,13 @@
-// Files and the texts of their reports.
+// Files, their reports and the texts of these.
 use std::process::Abort;
 use std::test::Fail;
-use summary::report::report;
+use summary::report::{FileReport, Refusal, report};
 
-// Whether the report on the file has the text and says that the file is accepted, or not.
-fn reports(
-    rt: &(impl Abort + AllocGlobal),
-    file: &str,
-    text: &str,
-    accepted: bool,
-) -> Result<(), Fail> {
-    let answer = report(rt.alloc(), file.as_bytes())?;
-    assert!(rt; answer.text.as_str() == text);
-    assert_eq!(rt; answer.accepted, accepted);
-    Ok(())
+// The report on the file, which has the text.
+fn reported(rt: &(impl Abort + AllocGlobal), file: &str, text: &str) -> Result<FileReport, Fail> {
+    let report = report(rt.alloc(), file.as_bytes())?;
+    assert!(rt; report.text(rt.alloc())?.as_str() == text);
+    Ok(report)
 }
 
 #[test]
@@ -52,22 +46,33 @@ fn accepted_files(rt: HostRuntime) -> Result<(), Fail> {
         // no bids
         ("SALE 94\nEND\n", "REVENUE 0\nWAYS 1\nTOP 0\n"),
     ] {
-        reports(&rt, file, text, true)?;
+        let report = reported(&rt, file, text)?;
+        assert!(rt; matches!(&report, FileReport::Accepted(_)));
     }
     Ok(())
 }
 
 #[test]
 fn refused_files(rt: HostRuntime) -> Result<(), Fail> {
-    for (file, text) in [
+    for (file, number, line, text) in [
         (
             "SALE 94\nG\nB 1 10\nG\nL\nB 2 6\nG\nL\nB 3 5\nE\nE\nEND\n",
+            8,
+            2,
             "REFUSED 8 LINE 2\n",
         ),
-        ("", "REFUSED 2 LINE 1\n"),
-        ("SALE 94\nG\nB 1000 1\nL\nE\nEND\n", "REFUSED 4 LINE 3\n"),
+        ("", 2, 1, "REFUSED 2 LINE 1\n"),
+        (
+            "SALE 94\nG\nB 1000 1\nL\nE\nEND\n",
+            4,
+            3,
+            "REFUSED 4 LINE 3\n",
+        ),
     ] {
-        reports(&rt, file, text, false)?;
+        let FileReport::Refused(refusal) = reported(&rt, file, text)? else {
+            return Err(Fail::new("accepted"));
+        };
+        assert_eq!(rt; refusal, Refusal { number, line });
     }
     Ok(())
 }

@@ -1,23 +1,31 @@
-use Rattle.std.proofs.Common.{◌+◌, vec_items, sym, ap, ◌∙◌}
+use Rattle.std.proofs.Common.{◌≡◌, ℕ, ◌+◌, eqb, vec_items, IfOk, ◌∙◌, rules}
+use Rattle.std.proofs.lemmas.Iterator.{YieldsList-from_slice, YieldsList-from_zip, YieldsList-from_map, items_from_collect}
+use Rattle.std.proofs.lemmas.Iterator.Consumers.{YieldsList-at, YieldsList-from_enumerate, YieldsList-from_filter}
+use Rattle.std.proofs.lemmas.Result.{IfOk-weaker}
 use Rattle.bids.specs.declared.bid.Bid.{Bid}
-use Rattle.contest.specs.Descent.{marked}
-use Rattle.summary.specs.declared.contents.Winner.{Winner}
-use Rattle.summary.specs.Marked.{winner_in}
-use Rattle.bids.proofs.Numbering.{bid_next}
-use Rattle.summary.proofs.Keeping.{listed_in, listed_out, marked_next, unmarked_next}
+use borrow.Author.Tests.{tests}
+use Rattle.summary.proofs.Listing.{winner, marked_winners, winners_marked}
 use Rattle.summary.proofs.gather.marked_bids.Goals as goal
-use Rattle.summary.proofs.gather.marked_bids.Goals.{then-marks-i-eq1+in_ok-push, else-marks-i-eq1}
 
-pub loop-i-preserved : goal.loop-i-preserved
-loop-i-preserved c =
+pub returns : goal.returns
+returns c =
     let bids = c.args.bids.now in
     let marks = c.args.marks.now in
-    let i = c.loop-i.i in
-    elim c.if-marks-i-eq1.branch [
-      | then-marks-i-eq1+in_ok-push w ↦
-          let winner : Bid → Winner = λ b. record { number = i + 1; buyer = b.buyer; price = b.price } in
-          listed_in (winner_in bids) (marked marks) i _ _ _ (marked_next marks i w.if-marks-i-eq1.true) (ap winner (sym (bid_next bids i)))
-          c.loop-i.invariant (ap vec_items w.winners-is ∙ w.in_ok-push.ensures.items)
-      | else-marks-i-eq1 w ↦
-          ap vec_items w.winners-is ∙ listed_out (winner_in bids) (marked marks) i _ (unmarked_next marks i w.if-marks-i-eq1.false) c.loop-i.invariant
-    ]
+    let listed : IfOk c.collect.result (λ v. vec_items v ≡ marked_winners 0 bids marks) =
+    items_from_collect _ c.collect.ensures.ran
+    (YieldsList-from_map _ (λ (q : ℕ × (Bid × ℕ)). winner (q.0 + 1) q.1.0)
+    (YieldsList-at c.map.ensures.source
+    (YieldsList-from_filter _ (λ (q : ℕ × (Bid × ℕ)). eqb q.1.1 1)
+    (YieldsList-at c.filter.ensures.source
+    (YieldsList-from_enumerate
+    (YieldsList-at c.enumerate.ensures.source
+    (YieldsList-from_zip
+    (YieldsList-from_slice bids (cc))
+    (YieldsList-from_slice marks (cc))))
+    (cc)))
+    c.filter.ensures.closure
+    (λ x r q k. search (rules, tests))))
+    c.map.ensures.closure
+    (λ x r q k. search (rules, tests)))
+    in
+    IfOk-weaker c.collect.result _ _ (λ v is contest m. is ∙ winners_marked contest bids marks m) listed

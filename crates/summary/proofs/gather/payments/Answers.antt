@@ -1,23 +1,23 @@
-use Rattle.std.proofs.Common.{◌≡◌, ◌-◌, vec_items, ap, ◌∙◌, arith}
+use Rattle.std.proofs.Common.{Ok, Err, Result, IfOk, ◌≡◌, vec_items, rules}
+use Rattle.std.proofs.lemmas.Iterator.{items_from_collect}
+use Rattle.std.proofs.lemmas.Iterator.Consumers.{YieldsList-at, YieldsList-from_filter_map}
 use Rattle.books.specs.Contests.{contest_at}
-use Rattle.summary.proofs.Paying.{paid_to, pays_more, pays_same}
+use Rattle.summary.specs.Reports.{payments_of}
+use Rattle.summary.proofs.Paying.{due, buyers_yielded, payments_listed}
 use Rattle.summary.proofs.gather.payments.Goals as goal
-use Rattle.summary.proofs.gather.payments.Goals.{then-has_marked_bid+in_ok-push, else-has_marked_bid}
 
-pub loop-buyer-preserved : goal.loop-buyer-preserved
-loop-buyer-preserved g c h held m =
-    let b = c.loop-buyer.buyer in
-    elim c.if-has_marked_bid.branch [
-      | then-has_marked_bid+in_ok-push w ↦
-          pays_more (contest_at h) _ _ m b (omega arith) (omega arith) _ c.has_marked_bid.ensures _ _ w.charge.result _
-          w.if-has_marked_bid.true (w.charge.ensures h held) w.unwrap_or-amount.ensures (c.loop-buyer.invariant h held m)
-          (ap vec_items w.payments-is ∙ w.in_ok-push.ensures.items)
-      | else-has_marked_bid w ↦
-          ap vec_items w.payments-is
-          ∙ pays_same (contest_at h) _ _ m b (omega arith) (omega arith) _ c.has_marked_bid.ensures _ w.if-has_marked_bid.false (c.loop-buyer.invariant h held m)
-    ]
+-- what holds of a result at Ok in each case
+if_ok_each :
+    {T E I : Type 0} {J K : I → Type 0} (r : Result T E) (P : I → T → Type 0) → ((i : I) → J i → K i → IfOk r (P i)) → IfOk r (λ v. (i : I) → J i → K i → P i v)
+if_ok_each (Ok v) P each = each
+if_ok_each (Err e) P each = tt
 
 pub returns : goal.returns
-returns g c h held m =
-    let all : c.loop-buyer.buyer - 1 ≡ 999 = omega arith in
-    c.loop-buyer.invariant h held m ∙ ap (paid_to (contest_at h)) all
+returns g c =
+    if_ok_each c.collect.result (λ h v. vec_items v ≡ payments_of (contest_at h)) (λ h held is.
+    payments_listed (contest_at h) c.collect.result
+    (items_from_collect _ c.collect.ensures.ran
+    (YieldsList-from_filter_map _ (due (contest_at h))
+    (YieldsList-at c.filter_map.ensures.source (buyers_yielded _ c.new.ensures.start c.new.ensures.end c.new.ensures.exhausted))
+    c.filter_map.ensures.closure
+    (λ x r q k. search (rules, k)))))

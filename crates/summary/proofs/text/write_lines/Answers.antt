@@ -1,10 +1,7 @@
 use Rattle.std.proofs.Common.{Ok, refl}
 use Rattle.std.proofs.lemmas.List.{take_all}
-use Rattle.summary.proofs.Texts.{put_none, line_more}
+use Rattle.summary.proofs.Texts.{line_more}
 use Rattle.summary.proofs.text.write_lines.Goals as goal
-
-pub loop-value-init : goal.loop-value-init
-loop-value-init g c line shows plain = put_none g.W.Write.write_str_gives _ plain
 
 pub loop-value-preserved : goal.loop-value-preserved
 loop-value-preserved g c line shows plain =

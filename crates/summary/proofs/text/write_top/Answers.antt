@@ -1,23 +1,29 @@
-use Rattle.std.proofs.Common.{refl}
-use Rattle.std.proofs.lemmas.List.{take_all}
-use Rattle.summary.proofs.Texts.{then_put, put_none, place_more}
+use Rattle.std.proofs.Common.{ℕ, refl, Bor, ap, ◌∙◌}
+use Rattle.std.proofs.Output.{has_written_of_eq}
+use Rattle.std.specs.Option.{option_to_list}
+use Rattle.std.proofs.lemmas.Iterator.{YieldsList-from_slice}
+use Rattle.std.proofs.lemmas.Iterator.Consumers.{YieldsList-end, YieldsList-at}
+use Rattle.std.proofs.lemmas.Iterator.Adapters.{YieldsList-from_flatten}
+use Rattle.summary.specs.Text.{spaced}
+use Rattle.summary.proofs.Texts.{then_put, number_more}
+use Rattle.summary.proofs.Yielding.{option_yielded, somes_flat}
 use Rattle.summary.proofs.text.write_top.Goals as goal
-use Rattle.summary.proofs.text.write_top.Goals.{in-Some+in_ok-write, in_default}
 
-pub loop-place-preserved : goal.loop-place-preserved
-loop-place-preserved g c plain =
-    let before = c.loop-place.invariant plain in
-    elim c.match-place.branch [
-      | in-Some+in_ok-write w ↦
-          place_more g.W.Write.write_str_gives _ _ _ c.loop-place-test.true w.in-Some.is _ _ _ _ w.f-is before
-          (w.in_ok-write.ensures.writes before.plain refl)
-      | in_default w ↦
-          place_more g.W.Write.write_str_gives _ _ _ c.loop-place-test.true w.in_default.is _ _ _ _ w.f-is before
-          (put_none g.W.Write.write_str_gives _ before.plain)
-    ]
+pub loop-amount-preserved : goal.loop-amount-preserved
+loop-amount-preserved g c plain =
+    let before = c.loop-amount.invariant plain in
+    number_more g.W.Write.write_str_gives c.loop-amount.yielded c.in-Some.amount _ _ _ before (c.in_ok-write.ensures.writes before.plain refl)
 
 pub returns : goal.returns
 returns g c plain ok =
-    let all = take_all _ _ c.loop-place-test.false in
     let word = c.in_ok-write_str.ensures.writes plain refl in
-    then_put word (rw all at (c.loop-place.invariant word.plain))
+    let road =
+    YieldsList-at c.into_iter-amount-iterator.ensures.into_iter_gives
+    (YieldsList-from_flatten _ _ (λ (y : Bor ℕ). y.now) option_to_list (λ x j b. option_yielded x.now b.0 b.1)
+    (YieldsList-at c.flatten-amount-items.ensures.source (YieldsList-from_slice c.args.top.now (cc)))
+    c.flatten-amount-items.ensures.front
+    c.flatten-amount-items.ensures.back
+    c.flatten-amount-items.ensures.done)
+    in
+    let all = YieldsList-end road c.loop-amount.yielded _ c.loop-amount.yielded_by _ _ c.in-None.is c.next.ensures.steps in
+    then_put word (has_written_of_eq g.W.Write.write_str_gives _ _ _ _ (ap spaced (all.0 ∙ somes_flat c.args.top.now)) (c.loop-amount.invariant word.plain))
