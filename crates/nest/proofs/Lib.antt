@@ -1,7 +1,7 @@
 pub mod Placing
 pub mod Upward
 pub mod Reading
-mod Adding
+mod Chaining
 mod Turning
 mod Downward
 mod Summing

@@ -8,7 +8,7 @@ use Rattle.contest.proofs.Listing.{get_d_any}
 use Rattle.contest.proofs.Places.{Passing, passing_outermost, passing_inner, passing_end, passing_parts}
 use Rattle.nest.specs.declared.nest.Nest.{Nest}
 use Rattle.nest.specs.Contests.{above, parent_in, on_in, contest_of_nest}
-use Rattle.nest.specs.Own.{own_in}
+use Rattle.nest.specs.Chains.{own_in}
 use Rattle.nest.specs.Totals.{NestTotal}
 use Rattle.nest.specs.Placed.{up_to}
 use Rattle.nest.proofs.Upward.{nested_of, parent_first}

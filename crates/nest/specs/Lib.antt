@@ -4,6 +4,6 @@ pub mod Checked
 pub mod Totals
 pub mod Awards
 pub mod Charges
-pub mod Own
+pub mod Chains
 pub mod Choosing
 pub mod Asking

@@ -11,23 +11,22 @@ use scales::lowest::Lowest;
 use scales::tied::Tied;
 
 // For each package of a nest the best choice of the bids inside it, with the lowest bid number in any such choice. An array, since what
-// is asked of a nest does not fail for want of memory.
+// is asked of a nest does not fail for want of memory; it is lent, since to hand it on would copy it.
 #[derive(Drop)]
 pub(crate) struct Choices<'a> {
     nest: &'a Nest,
-    best: [Tied<Lowest>; MAX_PACKAGES],
-    ghost lowest: { (g : ℕ) → 1 ≤ g → g ≤ vec_len nest.now.parents → low_in best g ≡ lowest_inside nest.now g },
+    best: &'a [Tied<Lowest>; MAX_PACKAGES],
+    ghost lowest: { (g : ℕ) → 1 ≤ g → g ≤ vec_len nest.now.parents → low_in best.now g ≡ lowest_inside nest.now g },
 }
 
 impl<'a> Choices<'a> {
     // The total of the bids' prices with their numbers leaves the best choices in its workspace.
-    pub(crate) fn of(nest: &'a Nest) -> Choices<'a>
+    pub(crate) fn of(nest: &'a Nest, best: &'a mut [Tied<Lowest>; MAX_PACKAGES]) -> Choices<'a>
         ensures { result.nest.now ≡ nest.now }
     {
-        let mut best = [Tied::Nothing; MAX_PACKAGES];
         nest.total_from(
             |number, bid| Tied::Amount(u64::from(bid.price), Lowest::Bid(number)),
-            &mut best,
+            best,
         );
         Choices { nest, best }
     }
@@ -36,7 +35,7 @@ impl<'a> Choices<'a> {
     pub(crate) fn lowest_in(&self, g: usize) -> Option<usize>
         requires low { 1 ≤ g }
         requires high { g ≤ max_packages }
-        ensures { unwrap_or result 0 ≡ low_in self.now.best g }
+        ensures { unwrap_or result 0 ≡ low_in self.now.best.now g }
     {
         match self.best[g - 1].best() {
             Some((_, Lowest::Bid(number))) => Some(number),
@@ -48,7 +47,7 @@ impl<'a> Choices<'a> {
     fn is_taken(&self, g: usize) -> bool
         requires low { 1 ≤ g }
         requires high { g ≤ max_packages }
-        ensures { result ≡ taken (length self.now.nest.now.bids.items) (on_in self.now.nest.now.bids.items) (low_in self.now.best) g }
+        ensures { result ≡ taken (length self.now.nest.now.bids.items) (on_in self.now.nest.now.bids.items) (low_in self.now.best.now) g }
     {
         self.lowest_in(g)
             .and_then(|number| number.checked_sub(1))
@@ -58,7 +57,7 @@ impl<'a> Choices<'a> {
 
     // Whether each package is open, from the outermost down: it is open if no bid has taken a package around it.
     pub(crate) fn opened(&self) -> [bool; MAX_PACKAGES]
-        ensures { Descends (length self.now.nest.now.bids.items) (vec_len self.now.nest.now.parents) (on_in self.now.nest.now.bids.items) (parent_in self.now.nest.now.parents.items) (low_in self.now.best) (flag result) }
+        ensures { Descends (length self.now.nest.now.bids.items) (vec_len self.now.nest.now.parents) (on_in self.now.nest.now.bids.items) (parent_in self.now.nest.now.parents.items) (low_in self.now.best.now) (flag result) }
     {
         let mut opened = [false; MAX_PACKAGES];
         for (g, parent) in self.nest.parents.iter().enumerate() {

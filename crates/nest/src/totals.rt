@@ -4,10 +4,10 @@ ghost use Rattle.nest.specs.Choosing.{worth_by};
 ghost use Rattle.nest.specs.Asking.{Askable, Answers};
 ghost use Rattle.nest.specs.Totals.{NestTotal, TotalOf, AppraisalOf};
 
+use crate::chains::Chains;
 use crate::fault::TotalFault;
 use crate::nest::Nest;
 use bids::Bid;
-use bids::limits::MAX_PACKAGES;
 use scales::{PricedScale, Scale};
 
 // Writes the unit into each place. (`fill` asks for a clone that cannot fail, which a scale does not promise.)
@@ -27,19 +27,11 @@ impl Nest {
         requires room { vec_len self.now.parents ≤ length work.old }
         ensures { (at : ℕ → Bid → S) → Answers S.Scale.meaning (F.post worth) self.now.bids.items at → NestTotal S.Scale.meaning S.Scale.ring self.now (worth_by S.Scale.meaning at self.now.bids.items) work.old work.new result }
     {
-        // The sum of each package's own worths. It is an array with a place for each package of the largest sale, since a total cannot fail
-        // and so cannot allocate.
-        let mut own = [S::nought(); MAX_PACKAGES];
-        for (i, bid) in self.bids.iter().enumerate() {
-            if !bid.withdrawn {
-                let place = bid.package - 1;
-                own[place] = own[place].sum(worth(i + 1, *bid));
-            }
-        }
+        let chains = Chains::of(self);
         clear(&mut work[..self.parents.len()]);
         let mut result = S::unit();
         for (g, parent) in self.parents.iter().enumerate().rev() {
-            let whole = work[g].sum(own[g]);
+            let whole = work[g].sum(chains.own_worth(&worth, g));
             work[g] = whole;
             match *parent {
                 None => result = result.product(whole),

@@ -11,7 +11,8 @@ use crate::choices::Choices;
 use crate::fault::AwardFault;
 use crate::nest::Nest;
 use bids::Bid;
-use bids::limits::MAX_BIDS;
+use bids::limits::{MAX_BIDS, MAX_PACKAGES};
+use scales::tied::Tied;
 
 // For each bid of a nest whether it wins. An array, since what is asked of a nest does not fail for want of memory.
 #[derive(Drop)]
@@ -26,7 +27,8 @@ impl<'a> Winners<'a> {
     pub(crate) fn of(nest: &'a Nest) -> Winners<'a>
         ensures { result.nest.now ≡ nest.now }
     {
-        let choices = Choices::of(nest);
+        let mut best = [Tied::Nothing; MAX_PACKAGES];
+        let choices = Choices::of(nest, &mut best);
         let opened = choices.opened();
         let mut wins = [false; MAX_BIDS];
         for (i, bid) in nest.bids.iter().enumerate() {
@@ -42,9 +44,9 @@ impl<'a> Winners<'a> {
     {
         let mut sum = 0;
         for (i, bid) in self.nest.bids.iter().enumerate() {
-            if self.wins[i] {
-                sum += u64::from(value(i + 1, *bid));
-            }
+            // Every bid is asked for its value, so that the loop need not branch on which bids win.
+            let all = u64::from(value(i + 1, *bid));
+            sum += if self.wins[i] { all } else { 0 };
         }
         sum
     }

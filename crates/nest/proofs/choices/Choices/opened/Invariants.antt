@@ -9,5 +9,5 @@ abbrev pub invariant-loop-g : goal.invariant-loop-g
 invariant-loop-g l =
     let n = l.self.nest.now in record {
       places : length l.opened ≡ max_packages;
-      down : Descends (length (vec_items n.bids)) l.g (on_in (vec_items n.bids)) (parent_in (vec_items n.parents)) (low_in l.self.best) (flag l.opened);
+      down : Descends (length (vec_items n.bids)) l.g (on_in (vec_items n.bids)) (parent_in (vec_items n.parents)) (low_in l.self.best.now) (flag l.opened);
     }

@@ -1,49 +1,13 @@
-use Rattle.std.proofs.Common.{◌≡◌, ℕ, ◌+◌, ◌-◌, ◌<◌, ◌≤◌, ◌∷◌, length, get_or, sym, refl, ap, ◌∙◌, subst, arith, length-set, drop-set-lt, vec_len, vec_items, rules}
+use Rattle.std.proofs.Common.{◌≡◌, ℕ, ◌+◌, ◌-◌, ◌<◌, ◌≤◌, ◌∷◌, length, ap, ◌∙◌, subst, arith, length-set, drop-set-lt, vec_len, vec_items, rules}
 use Rattle.bids.specs.declared.bid.Bid.{Bid}
-use Rattle.bids.specs.Bids.{no_bid}
-use Rattle.bids.specs.Limits.{max_packages}
-use Rattle.nest.specs.Own.{own_in}
+use Rattle.nest.specs.declared.nest.Nest.{Nest}
+use Rattle.nest.specs.Chains.{own_in}
 use Rattle.nest.specs.Asking.{Answers}
-use Rattle.nest.proofs.Adding.{Summed, summed_none, summed_skips, summed_adds, summed_all}
 use Rattle.nest.specs.Choosing.{worth_by}
 use Rattle.nest.proofs.Turning.{next_left, passed_all, next_within, next_lower, turn_outermost, turn_inner}
 use Rattle.nest.proofs.nest.Nest.total_from.Goals as goal
-use Rattle.nest.proofs.nest.Nest.total_from.Goals.{In-Some, In-Some-parent, After-sum-whole, then-not-bid, else-not-bid}
+use Rattle.nest.proofs.nest.Nest.total_from.Goals.{In-Some, In-Some-parent, After-sum-whole}
 use Rattle.nest.proofs.nest.Nest.total_from.Given.{Over}
-
-pub loop-i-init : goal.loop-i-init
-loop-i-init g c = record {
-  places = refl;
-  sums = λ at answers. summed_none g.S.Scale.meaning g.met.S.Scale.laws at (vec_items c.args.self.now.bids) max_packages _ c.nought-own.ensures;
-}
-
-pub loop-i-preserved : goal.loop-i-preserved
-loop-i-preserved g c =
-    let s = g.S.Scale in
-    let laws = g.met.S.Scale.laws in
-    let n = c.args.self.now in
-    let bids = vec_items n.bids in
-    let e = c.deref-bid-items.ensures.value in
-    let i = c.loop-i.i in
-    let inv = c.loop-i.invariant in
-    elim c.if-not-bid.branch [
-      | then-not-bid w ↦
-          let low = rw e at c.loop-i-test.true in
-          let t = n.bids_placed i low in
-          record {
-            places = ap length w.own-is ∙ length-set c.loop-i.own _ _ ∙ inv.places;
-            sums = λ at answers.
-                subst (λ own. Summed s.meaning s.ring at bids max_packages own (i + 1)) (sym w.own-is)
-                (summed_adds s.meaning laws at bids max_packages c.loop-i.own i (inv.sums at answers) _ _ _ _ (rw e at w.if-not-bid.true) (rw e refl) (rw e t.0) (rw e (omega arith)) (omega arith)
-                (answers i _ low (subst (λ bs. goal.F-post g c.args.worth (i + 1) (get_or bs i no_bid) w.worth.result) e w.worth.ensures)) w.sum.ensures);
-          }
-      | else-not-bid w ↦ record {
-        places = ap length w.own-is ∙ inv.places;
-        sums = λ at answers.
-            subst (λ own. Summed s.meaning s.ring at bids max_packages own (i + 1)) (sym w.own-is)
-            (summed_skips s.meaning laws at bids max_packages c.loop-i.own i (inv.sums at answers) (rw e at w.if-not-bid.false));
-      }
-    ]
 
 -- the next package
 here : (g : Over) (c : In-Some g) → c.in-Some.g ≡ length c.next.new.self.iter.iter.rest.now
@@ -53,13 +17,13 @@ within : (g : Over) (c : In-Some g) → c.in-Some.g < vec_len c.args.self.now.pa
 within g c = omega (arith, here g c, next_within c.args.self.now _ _ c.loop-g.invariant.done.0 _ c.in-Some.ensures.steps.1.0 c.loop-g.invariant.done.1)
 
 -- its own worths are added
-made : (g : Over) (c : After-sum-whole g) → c.in-Some.g < vec_len c.args.self.now.parents → (at : ℕ → Bid → _) → Answers g.S.Scale.meaning (goal.F-post g c.args.worth) (vec_items c.args.self.now.bids) at
+made : (g : Over) (c : After-sum-whole g) → (at : ℕ → Bid → _) → Answers g.S.Scale.meaning (goal.F-post g c.args.worth) (vec_items c.args.self.now.bids) at
     → g.S.Scale.meaning c.sum-whole.result ≡ g.S.Scale.ring.add (g.S.Scale.meaning c.index-work-g.result) (own_in g.S.Scale.ring (vec_items c.args.self.now.bids) (worth_by g.S.Scale.meaning at (vec_items c.args.self.now.bids)) (c.in-Some.g + 1))
-made g c low at answers =
-    let high : c.in-Some.g < max_packages = omega (arith, low, c.args.self.now.packages_few) in
+made g c at answers =
     c.sum-whole.ensures
     ∙ ap (g.S.Scale.ring.add (g.S.Scale.meaning c.index-work-g.result))
-    (summed_all g.S.Scale.meaning g.met.S.Scale.laws at (vec_items c.args.self.now.bids) max_packages c.loop-i.own c.loop-i.i (c.loop-i.invariant.sums at answers) (omega arith) c.in-Some.g c.index-own-g.result high)
+    (subst (λ (n : Nest). Answers g.S.Scale.meaning (goal.F-post g c.args.worth) (vec_items n.bids) at → g.S.Scale.meaning c.own_worth.result ≡ own_in g.S.Scale.ring (vec_items n.bids) (worth_by g.S.Scale.meaning at (vec_items n.bids)) (c.in-Some.g + 1))
+    c.of-chains.ensures (c.own_worth.ensures at) answers)
 
 -- its parent is an earlier one
 lower : (g : Over) (c : In-Some-parent g) → (1 ≤ c.in-Some-parent.p) × (c.in-Some-parent.p - 1 < vec_len c.args.self.now.parents)
@@ -82,7 +46,7 @@ loop-g-preserved-in-None-parent g c =
       pass = λ at answers.
           turn_outermost n _ _ inv.done.0 _ steps.1.0 inv.done.1 s.meaning g.met.S.Scale.laws (worth_by s.meaning at (vec_items n.bids))
           c.loop-g.work c.loop-g.result _ _ c.in-Some.g (here g some) (omega arith) (inv.pass at answers) c.index-work-g.is
-          (made g (goal.at.loop-g-preserved-in-None-parent g c).After-sum-whole (within g some) at answers)
+          (made g (goal.at.loop-g-preserved-in-None-parent g c).After-sum-whole at answers)
           c.product-result.result c.in-None-parent.is c.product-result.ensures;
       further = drop-set-lt _ c.loop-g.work _ _ (within g some) ∙ inv.further;
     }
@@ -100,13 +64,13 @@ loop-g-preserved g c =
       pass = λ at answers.
           turn_inner n _ _ inv.done.0 _ steps.1.0 inv.done.1 s.meaning g.met.S.Scale.laws (worth_by s.meaning at (vec_items n.bids))
           c.loop-g.work c.loop-g.result _ _ c.in-Some.g (here g some) (omega arith) (inv.pass at answers) c.index-work-g.is
-          (made g (goal.at.loop-g-preserved g c).After-sum-whole (within g some) at answers)
+          (made g (goal.at.loop-g-preserved g c).After-sum-whole at answers)
           c.in-Some-parent.p c.index-work-p.result c.product.result c.in-Some-parent.is c.product.ensures;
       further = drop-set-lt _ _ _ _ (lower g (goal.at.loop-g-preserved g c).In-Some-parent).1 ∙ drop-set-lt _ c.loop-g.work _ _ (within g some) ∙ inv.further;
     }
 
-pub overflow_sub-place-in-Some-parent : goal.overflow_sub-place-in-Some-parent
-overflow_sub-place-in-Some-parent g c = (lower g c).0
+pub overflow_sub-place : goal.overflow_sub-place
+overflow_sub-place g c = (lower g c).0
 
 pub bounds-work-p : goal.bounds-work-p
 bounds-work-p g c = let low = lower g c in simp length-set (omega arith)

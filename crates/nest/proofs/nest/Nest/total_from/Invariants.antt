@@ -1,19 +1,9 @@
 use Rattle.std.proofs.Common.{◌≡◌, ℕ, List, ◌++◌, length, drop, Option, vec_len, vec_items}
 use Rattle.bids.specs.declared.bid.Bid.{Bid}
-use Rattle.bids.specs.Limits.{max_packages}
 use Rattle.nest.specs.Choosing.{worth_by}
 use Rattle.nest.specs.Asking.{Answers}
-use Rattle.nest.proofs.Adding.{Summed}
 use Rattle.nest.proofs.Turning.{Passed}
 use Rattle.nest.proofs.nest.Nest.total_from.Given as goal
-
-abbrev pub invariant-loop-i : goal.invariant-loop-i
-invariant-loop-i g l =
-    let s = g.S.Scale in
-    record {
-      places : length l.own ≡ max_packages;
-      sums : (at : ℕ → Bid → _) → Answers s.meaning (goal.F-post g l.worth) (vec_items l.self.bids) at → Summed s.meaning s.ring at (vec_items l.self.bids) max_packages l.own l.i;
-    }
 
 -- The iterator has the packages that are still to do.
 abbrev pub invariant-loop-g : goal.invariant-loop-g

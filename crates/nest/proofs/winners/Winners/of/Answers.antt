@@ -13,7 +13,7 @@ pub loop-i-preserved : goal.loop-i-preserved
 loop-i-preserved c =
     let bids = vec_items c.args.nest.now.bids in
     let i = c.loop-i.i in
-    let low = low_in c.of-choices.result.best in
+    let low = low_in c.of-choices.result.best.now in
     let opened = flag c.opened-opened.result in
     let r = c.if-opened-bid.wins in
     let e = c.deref-bid-items.ensures.value in
@@ -34,7 +34,7 @@ loop-i-preserved c =
 
 pub invariant_of-result : goal.invariant_of-result
 invariant_of-result c =
-    let best = c.of-choices.result.best in
+    let best = c.of-choices.result.best.now in
     let opened = flag c.opened-opened.result in
     record {
       are_award = λ k low high.

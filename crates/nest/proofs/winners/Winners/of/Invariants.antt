@@ -8,5 +8,5 @@ use Rattle.nest.proofs.winners.Winners.of.Given as goal
 abbrev pub invariant-loop-i : goal.invariant-loop-i
 invariant-loop-i l = record {
   places : length l.wins ≡ max_bids;
-  so_far : (k : ℕ) → 1 ≤ k → k ≤ l.i → flag l.wins k ≡ wins (on_in (vec_items l.nest.bids)) (low_in l.choices.best) (flag l.opened) k;
+  so_far : (k : ℕ) → 1 ≤ k → k ≤ l.i → flag l.wins k ≡ wins (on_in (vec_items l.nest.bids)) (low_in l.choices.best.now) (flag l.opened) k;
 }
