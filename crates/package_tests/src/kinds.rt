@@ -164,6 +164,8 @@ fn packages_have_their_sizes(rt: HostRuntime) {
 #[test]
 fn kinds_name_their_highest_lot(rt: HostRuntime) {
     assert_eq!(rt; Run::HIGHEST, 65_535);
+    assert_eq!(rt; Run::highest_lot(), 65_535);
     assert_eq!(rt; Mask::HIGHEST, 64);
+    assert_eq!(rt; Mask::highest_lot(), 64);
     assert_eq!(rt; highest_lots(), (65_535, 64));
 }

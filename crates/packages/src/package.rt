@@ -14,6 +14,13 @@ pub trait Package: Copy {
     // The same number, for clauses.
     ghost HIGHEST: { ℕ };
 
+    // Answers `HIGHEST`, for code that asks a kind by a call.
+    fn highest_lot() -> u32
+        ensures { result ≡ HIGHEST }
+    {
+        Self::HIGHEST
+    }
+
     // The set of lots that a package means.
     ghost meaning: { Self → Lots };
 
