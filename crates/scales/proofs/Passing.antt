@@ -5,7 +5,7 @@ use Rattle.std.proofs.lemmas.List.{take_all, drop_all, append-nil}
 use Rattle.scales.specs.Adjoined.{add_some, mul_both}
 use Rattle.scales.specs.Best.{total}
 use Rattle.scales.specs.BestLaws.{Rising, ordered_pair, Same}
-use Rattle.scales.specs.Places.{in_front, somes}
+use Rattle.scales.specs.Places.{in_front, somes, ◌≼◌, Falls}
 use Rattle.scales.proofs.Parts.{part, total_with}
 
 -- the places once an amount is passed down them, and the amount that is dropped
@@ -63,10 +63,26 @@ passed_same limit a ps = record {
       (λ (h : d ≤ 0). ap (min (length ps)) (omega arith)) (cases_lt 0 d));
 }
 
+-- one amount passed down leaves the next place at most as great
+lower_place : (a p q : Option ℕ) → q ≼ p → add_some max (mul_both min a p) q ≼ add_some max a p
+lower_place None p q h = h
+lower_place (Some x) None None h = tt
+lower_place (Some x) None (Some z) h = absurd h
+lower_place (Some x) (Some y) None h = omega arith
+lower_place (Some x) (Some y) (Some z) h = omega arith
+
+-- so places that fall still do
+pub order_passed : (a : Option ℕ) (ps : List (Option ℕ)) → Falls ps → Falls (passed a ps)
+order_passed a [] h = tt
+order_passed a (p ∷ []) h = tt
+order_passed a (p ∷ q ∷ ps) h = (lower_place a p q h.0, order_passed (mul_both min a p) (q ∷ ps) h.1)
+
 -- where the loop is over the places
+pub passed_all : (a rest : Option ℕ) (ps kept : List (Option ℕ)) (i : ℕ) → length kept ≤ i → passed a ps ≡ take i kept ++ passed rest (drop i kept) → passed a ps ≡ kept
+passed_all a rest ps kept i h e = e ∙ ap₂ (λ x y. x ++ passed rest y) (take_all i kept h) (drop_all i kept h) ∙ append-nil kept
+
 pub passed_down : (limit k : ℕ) (a rest : Option ℕ) (ps kept : List (Option ℕ)) (i : ℕ) → length ps ≡ k → length kept ≤ i
     → passed a ps ≡ take i kept ++ passed rest (drop i kept) → Same k limit (somes kept) (in_front a (somes ps))
 passed_down limit k a rest ps kept i n h e =
-    let whole : passed a ps ≡ kept = e ∙ ap₂ (λ x y. x ++ passed rest y) (take_all i kept h) (drop_all i kept h) ∙ append-nil kept in
     subst (λ m. Same m limit (somes kept) (in_front a (somes ps))) n
-    (subst (λ qs. Same (length ps) limit (somes qs) (in_front a (somes ps))) whole (passed_same limit a ps))
+    (subst (λ qs. Same (length ps) limit (somes qs) (in_front a (somes ps))) (passed_all a rest ps kept i h e) (passed_same limit a ps))

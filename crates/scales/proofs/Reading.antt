@@ -1,5 +1,5 @@
 -- Amounts that are sorted from the greatest down, and read cut.
-use Rattle.std.proofs.Common.{◌≡◌, ℕ, ◌≤◌, min, false, List, [], ◌∷◌, map, length, get_or, Some, None, Option, sym, refl, ap, ◌∙◌, arith}
+use Rattle.std.proofs.Common.{◌≡◌, ℕ, min, false, List, [], ◌∷◌, map, length, get_or, Some, None, Option, sym, refl, ap, ◌∙◌, arith}
 use denote.Ref.{Bor}
 use denote.Param.Members.{Mut}
 use Rattle.std.specs.Array.{IsMapOf}
@@ -19,7 +19,7 @@ use Rattle.std.proofs.lemmas.List.Sorted.{ranks_by, IsStrictWeakOrder-flip, sum_
 use Rattle.std.proofs.lemmas.List.Sums.{sum_by-cons}
 use Rattle.scales.specs.Best.{Best, best, total}
 use Rattle.scales.specs.BestLaws.{Same, same_refl, same_sym, same_trans, same_totals, best_again, same_best}
-use Rattle.scales.specs.Places.{somes, Packed}
+use Rattle.scales.specs.Places.{somes, Packed, ◌≼◌}
 use Rattle.scales.specs.PlacesLaws.{cut_same}
 use Rattle.scales.proofs.Parts.{part, total_with, with_both}
 
@@ -32,13 +32,6 @@ total_somes g (o ∷ os) = omega (arith, total_with g o (somes os), total_somes 
 same_moved : {k limit : ℕ} (os ps : List (Option ℕ)) → IsPermutation os ps → Same k limit (somes ps) (somes os)
 same_moved os ps moved = same_totals (λ g. total_somes g ps ∙ sum_by-IsPermutation (part g) os ps moved ∙ sym (total_somes g os))
 
--- at most as great, none being below every amount
-abbrev ◌≼◌ : Option ℕ → Option ℕ → Type 0
-None ≼ b = Unit {0}
-Some x ≼ None = ⊥
-Some x ≼ Some y = x ≤ y
-
-infix 40 ◌≼◌
 -- each is at most as great as the one before it, after a sort by a closure that compares the other way round
 
 abbrev pub Down : List (Option ℕ) → Type 0

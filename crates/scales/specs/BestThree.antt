@@ -6,10 +6,11 @@
 --   best_of      what a value means: they are read cut and in falling order
 --   best_worth   a price is worth itself alone
 --   no_amounts   the value without amounts
+--   InOrder      a value holds its amounts in falling order, and then nothing
 use Rattle.std.specs.Prelude.{ℕ, List, [], ◌∷◌, Some, None}
 use Rattle.scales.specs.Best.{Best, best, bests}
 use Rattle.scales.specs.Cut.{top_amount}
-use Rattle.scales.specs.Places.{somes}
+use Rattle.scales.specs.Places.{somes, Falls}
 use Rattle.scales.specs.Semiring.{Semiring}
 use Rattle.scales.specs.declared.best_three.BestThree.{BestThree}
 
@@ -33,3 +34,6 @@ best_worth price = record { places = Some price ∷ None ∷ None ∷ [] }
 
 abbrev pub no_amounts : BestThree
 no_amounts = record { places = None ∷ None ∷ None ∷ [] }
+
+abbrev pub InOrder : BestThree → Type 0
+InOrder b = Falls b.places

@@ -1,7 +1,7 @@
 // BestThree: the three greatest amounts of all choices, repeats counted.
 ghost use Rattle.std.specs.Prelude.{◌≡◌, [], Some};
 ghost use Rattle.std.proofs.Common.{sym};
-ghost use Rattle.scales.specs.BestThree.{BestThrees, best_threes, best_three, held, best_of, best_worth, no_amounts};
+ghost use Rattle.scales.specs.BestThree.{BestThrees, best_threes, best_three, held, best_of, best_worth, no_amounts, InOrder};
 ghost use Rattle.scales.specs.Places.{in_front, somes, Packed};
 ghost use Rattle.scales.specs.Cut.{top_amount};
 ghost use Rattle.scales.specs.BestLaws.{bests_laws, same_best};
@@ -37,7 +37,8 @@ impl BestThree {
     // The three greatest of these amounts and one more. Each place keeps the greater and hands on the lesser, so the least of
     // the four is dropped, in whatever order they are.
     fn with(mut self, amount: Option<u64>) -> BestThree
-        ensures { best_of result ≡ best_three (in_front amount (held self)) }
+        ensures means { best_of result ≡ best_three (in_front amount (held self)) }
+        ensures order { InOrder self → InOrder result }
     {
         // An empty place adds nothing, and most lists that are added have only one amount.
         if amount.is_none() {

@@ -17,7 +17,7 @@ loop-b-preserved c =
     let a = get_or c.args.self.places c.loop-a.a-index None in
     let bs = c.args.other.places in
     let before = pair_sums (somes (take c.loop-a.a-index c.args.self.places)) (held c.args.other) in
-    let with_pair = best_is_same _ _ (c.with-all.ensures ∙ ap (λ o. best_three (in_front o (held c.loop-b.all))) c.together.ensures) in
+    let with_pair = best_is_same _ _ (c.with-all.ensures.means ∙ ap (λ o. best_three (in_front o (held c.loop-b.all))) c.together.ensures) in
     subst (λ ys. Same 3 top_amount (held c.with-all.result) (before ++ pair_sums (in_front a []) ys)) (sym (somes_more bs c.loop-b.b-index (omega arith)))
     (one_paired a (get_or bs c.loop-b.b-index None) before (somes (take c.loop-b.b-index bs)) with_pair c.loop-b.invariant)
 

@@ -12,7 +12,7 @@ loop-amount-preserved c =
     let l = c.loop-amount in
     let places = c.args.other.places in
     subst (λ xs. Same 3 top_amount (held c.with-all.result) (held c.args.self ++ xs)) (sym (somes_more places l.amount-index (omega arith)))
-    (one_more (get_or places l.amount-index None) (held c.args.self) (somes (take l.amount-index places)) (best_is_same _ _ c.with-all.ensures) l.invariant)
+    (one_more (get_or places l.amount-index None) (held c.args.self) (somes (take l.amount-index places)) (best_is_same _ _ c.with-all.ensures.means) l.invariant)
 
 pub returns : goal.returns
 returns c =
