@@ -18,7 +18,7 @@ fn read_input<R: Read + Drop>(heap: Global, input: R) -> anyhow::Result<Vec<u8>>
 fn main(rt: HostRuntime) -> anyhow::Result<ExitCode> {
     let file = read_input(rt.alloc(), rt.stdin())?;
     let report = report(rt.alloc(), file.as_slice())?;
-    rt.print(&report)?;
+    rt.print(report.text(rt.alloc())?.as_str())?;
     Ok(match report {
         FileReport::Accepted(_) => ExitCode::SUCCESS,
         FileReport::Refused(_) => ExitCode::FAILURE,

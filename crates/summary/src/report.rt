@@ -9,6 +9,7 @@ ghost use Rattle.summary.specs.FileText.{Reported, new_sale, file_answer, file_b
 ghost use Rattle.summary.specs.Text.{printed_text};
 
 use crate::contents::Summary;
+use crate::text::refusal_text;
 use bids::limits::MAX_PACKAGES;
 use packages::Run;
 use sale::{LoadFault, Sale};
@@ -45,7 +46,10 @@ impl FileReport {
     pub fn text(&self, heap: Global) -> Result<String, AllocError>
         ensures { IfOk result (λ t. string_bytes t ≡ printed_text self.now) }
     {
-        format!(in heap; "{self}")
+        match self {
+            FileReport::Accepted(summary) => summary.text(heap),
+            FileReport::Refused(refusal) => refusal_text(heap, refusal.number, refusal.line),
+        }
     }
 }
 
